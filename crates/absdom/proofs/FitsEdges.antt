@@ -24,7 +24,7 @@ use Rattle.absdom.specs.Kinds.{number_of}
 use Rattle.absdom.specs.State.{StateValue, kind_in, kind_at, with_kind}
 use Rattle.absdom.specs.Edges.{compared_range, with_source, edge_state, edge_states, unrefined_edges, is_itself, edges_of, compared_edges}
 use Rattle.absdom.specs.Fits.{FitsKind, Fits, FitsEdge, edge_where, TakesEdge}
-use Rattle.absdom.specs.Laws.{RefineFits}
+use Rattle.absdom.specs.Laws.{StateRefineFits}
 use Rattle.absdom.proofs.FitsMemory.{word_below}
 use Rattle.absdom.proofs.FitsState.{at_place}
 
@@ -133,7 +133,7 @@ compared_fit ranges s a condition width dst src offset (Ok left) (Ok right) g h 
   edges_fit ranges s a condition width dst src left right g.0 h.0 g.1 h.1 g.2 h.2 fits,
 )
 
-pub refine_fits : RangesFit → RefineFits
+pub refine_fits : RangesFit → StateRefineFits
 refine_fits ranges header s a comparison offset fits =
     let dst = comparison.dst in
     let src = comparison.src in

@@ -13,10 +13,10 @@ use Rattle.machine.specs.declared.values.Value.{Value}
 use Rattle.machine.specs.declared.values.Value.TheVariants.{Unset as Nothing, Num as Number, Ptr as Pointer, Map as MapOf}
 use Rattle.machine.specs.Words.{word}
 use Rattle.bpf_parts.specs.Sizes.{load_bytes}
-use Rattle.machine.specs.Memory.{Header, IsHeader, region_size, place_within, place_of, byte_of, byte_below, little_endian, loaded_value}
+use Rattle.machine.specs.Memory.{Header, IsProgramHeader, region_size, place_within, region_place_of, byte_of, byte_below, little_endian, loaded_value}
 use Rattle.machine.specs.Laws.{SameBytes}
 use Rattle.machine.specs.State.{State}
-use Rattle.machine.specs.Step.{load_value, bytes_at, loads}
+use Rattle.machine.specs.Step.{load_value, region_bytes_at, loads}
 use Rattle.absdom_num.specs.Ranges.{IsIn}
 use Rattle.absdom.specs.declared.cause.Cause.TheVariants.{UnsetStack}
 use Rattle.absdom.specs.declared.kinds.AbsKind.{AbsKind}
@@ -63,7 +63,7 @@ within_between size bytes (pos i) (pos j) (negsuc k) g h = absurd (omega (arith,
 within_between size bytes (pos i) (pos j) (pos k) g h =
     by_tests size bytes i j k (omega (arith, ints)) (omega (arith, ints)) (nat_le (i + bytes) size) (nat_le (j + bytes) size) (nat_le (k + bytes) size) refl refl refl
 
-pub place_between : (region : Region) (bytes : ℕ) (o : ℤ × ℤ) (offset z : ℤ) → IsAmong z o → HasPlace (region_size region) bytes (access_places region bytes o offset) (place_of region bytes (z +ℤ offset))
+pub place_between : (region : Region) (bytes : ℕ) (o : ℤ × ℤ) (offset z : ℤ) → IsAmong z o → HasPlace (region_size region) bytes (access_places region bytes o offset) (region_place_of region bytes (z +ℤ offset))
 place_between Front bytes o offset z h =
     within_between 4 bytes (o.0 +ℤ offset) (o.1 +ℤ offset) (z +ℤ offset) (omega (arith, ints, h.above)) (omega (arith, ints, h.below))
 place_between Tail bytes o offset z h =
@@ -125,7 +125,7 @@ value_fits size None h = absurd h
 value_fits size (Some n) h = loaded_fits size n h
 
 -- the bytes that a load reads are set: those of the header always, those of the stack if they are marked
-pub bytes_set : (header : Header) (s : State) (a : StateValue) (region : Region) (bytes first last place : ℕ) → IsHeader header → Fits s a → is_set region a.marks bytes (first, last) ≡ true → IsBetween (region_size region) bytes first last place → (k : ℕ) → k < bytes → IsByte (byte_of header s.stack region (place + k))
+pub bytes_set : (header : Header) (s : State) (a : StateValue) (region : Region) (bytes first last place : ℕ) → IsProgramHeader header → Fits s a → is_set region a.marks bytes (first, last) ≡ true → IsBetween (region_size region) bytes first last place → (k : ℕ) → k < bytes → IsByte (byte_of header s.stack region (place + k))
 bytes_set header s a Front bytes first last place known fits e between k h =
     byte_in header.front (place + k) known.front_bytes (omega (arith, known.front, between.room))
 bytes_set header s a Tail bytes first last place known fits e between k h =
@@ -164,18 +164,18 @@ place_read own header s a LoadDouble first last place fits between e is =
     subst P (sym same) (whole_word (little_endian s.stack 8 (8 * (first / 8))) (range_at a (first / 8)) (fits.words (first / 8) marked))
 
 -- a load of bytes that are set gives a number in the range of its size
-table_read : (header : Header) (s : State) (a : StateValue) (size : LoadSize) (region : Region) (first last place : ℕ) → IsHeader header → Fits s a → IsBetween (region_size region) (load_bytes size) first last place → is_set region a.marks (load_bytes size) (first, last) ≡ true → FitsResult (load_value size (little_endian (byte_of header s.stack region) (load_bytes size) place)) (Ok (Num (loaded_range size)))
+table_read : (header : Header) (s : State) (a : StateValue) (size : LoadSize) (region : Region) (first last place : ℕ) → IsProgramHeader header → Fits s a → IsBetween (region_size region) (load_bytes size) first last place → is_set region a.marks (load_bytes size) (first, last) ≡ true → FitsResult (load_value size (little_endian (byte_of header s.stack region) (load_bytes size) place)) (Ok (Num (loaded_range size)))
 table_read header s a size region first last place known fits between e =
     value_fits size (little_endian (byte_of header s.stack region) (load_bytes size) place)
     (little_fits (byte_of header s.stack region) (load_bytes size) place (bytes_set header s a region (load_bytes size) first last place known fits e between))
 
-kept_read : SameBytes → (header : Header) (s : State) (a : StateValue) (size : LoadSize) (first last place : ℕ) → IsHeader header → Fits s a → IsBetween 512 (load_bytes size) first last place → is_set Stack a.marks (load_bytes size) (first, last) ≡ true → (t : Bool) → is_stack_word (load_bytes size) (first, last) ≡ t → FitsResult (load_value size (little_endian (byte_of header s.stack Stack) (load_bytes size) place)) (Ok (Num (if t then range_at a (first / 8) else loaded_range size)))
+kept_read : SameBytes → (header : Header) (s : State) (a : StateValue) (size : LoadSize) (first last place : ℕ) → IsProgramHeader header → Fits s a → IsBetween 512 (load_bytes size) first last place → is_set Stack a.marks (load_bytes size) (first, last) ≡ true → (t : Bool) → is_stack_word (load_bytes size) (first, last) ≡ t → FitsResult (load_value size (little_endian (byte_of header s.stack Stack) (load_bytes size) place)) (Ok (Num (if t then range_at a (first / 8) else loaded_range size)))
 kept_read own header s a size first last place known fits between e true is =
     place_read own header s a size first last place fits between e (word_test (load_bytes size) (first, last) is)
 kept_read own header s a size first last place known fits between e false is =
     table_read header s a size Stack first last place known fits between e
 
-range_read : SameBytes → (spill : Spill) (header : Header) (s : State) (a : StateValue) (size : LoadSize) (region : Region) (first last place : ℕ) → IsHeader header → Fits s a → IsBetween (region_size region) (load_bytes size) first last place → is_set region a.marks (load_bytes size) (first, last) ≡ true → FitsResult (load_value size (little_endian (byte_of header s.stack region) (load_bytes size) place)) (Ok (Num (read_range spill a size region (first, last))))
+range_read : SameBytes → (spill : Spill) (header : Header) (s : State) (a : StateValue) (size : LoadSize) (region : Region) (first last place : ℕ) → IsProgramHeader header → Fits s a → IsBetween (region_size region) (load_bytes size) first last place → is_set region a.marks (load_bytes size) (first, last) ≡ true → FitsResult (load_value size (little_endian (byte_of header s.stack region) (load_bytes size) place)) (Ok (Num (read_range spill a size region (first, last))))
 range_read own Forgets header s a size region first last place known fits between e =
     table_read header s a size region first last place known fits between e
 range_read own Keeps header s a size Front first last place known fits between e =
@@ -186,19 +186,19 @@ range_read own Keeps header s a size Stack first last place known fits between e
     kept_read own header s a size first last place known fits between e (is_stack_word (load_bytes size) (first, last)) refl
 
 -- by whether all of them are set
-read_by_test : SameBytes → (spill : Spill) (header : Header) (s : State) (a : StateValue) (size : LoadSize) (region : Region) (first last place : ℕ) → IsHeader header → Fits s a → IsBetween (region_size region) (load_bytes size) first last place → (t : Bool) → is_set region a.marks (load_bytes size) (first, last) ≡ t → FitsResult (load_value size (little_endian (byte_of header s.stack region) (load_bytes size) place)) (if t then Ok (Num (read_range spill a size region (first, last))) else Err UnsetStack)
+read_by_test : SameBytes → (spill : Spill) (header : Header) (s : State) (a : StateValue) (size : LoadSize) (region : Region) (first last place : ℕ) → IsProgramHeader header → Fits s a → IsBetween (region_size region) (load_bytes size) first last place → (t : Bool) → is_set region a.marks (load_bytes size) (first, last) ≡ t → FitsResult (load_value size (little_endian (byte_of header s.stack region) (load_bytes size) place)) (if t then Ok (Num (read_range spill a size region (first, last))) else Err UnsetStack)
 read_by_test own spill header s a size region first last place known fits between false e = tt
 read_by_test own spill header s a size region first last place known fits between true e =
     range_read own spill header s a size region first last place known fits between e
 
-read_fits : SameBytes → (spill : Spill) (header : Header) (s : State) (a : StateValue) (size : LoadSize) (region : Region) (places : Option (ℕ × ℕ)) (place : Option ℕ) → IsHeader header → Fits s a → HasPlace (region_size region) (load_bytes size) places place → FitsResult (load_value size (bytes_at header s.stack region (load_bytes size) place)) (read_kind spill a size region places)
+read_fits : SameBytes → (spill : Spill) (header : Header) (s : State) (a : StateValue) (size : LoadSize) (region : Region) (places : Option (ℕ × ℕ)) (place : Option ℕ) → IsProgramHeader header → Fits s a → HasPlace (region_size region) (load_bytes size) places place → FitsResult (load_value size (region_bytes_at header s.stack region (load_bytes size) place)) (read_kind spill a size region places)
 read_fits own spill header s a size region None place known fits h = tt
 read_fits own spill header s a size region (Some places) None known fits h = absurd h
 read_fits own spill header s a size region (Some places) (Some place) known fits h =
     read_by_test own spill header s a size region places.0 places.1 place known fits h (is_set region a.marks (load_bytes size) places) refl
 
 -- a load through a pointer
-pub load_fits : SameBytes → (spill : Spill) (header : Header) (s : State) (a : StateValue) (size : LoadSize) (u : Value) (p : AbsKind) (offset : ℤ) → IsHeader header → Fits s a → FitsKind u p → FitsResult (loads header s size u offset) (load_kind spill a size p offset)
+pub load_fits : SameBytes → (spill : Spill) (header : Header) (s : State) (a : StateValue) (size : LoadSize) (u : Value) (p : AbsKind) (offset : ℤ) → IsProgramHeader header → Fits s a → FitsKind u p → FitsResult (loads header s size u offset) (load_kind spill a size p offset)
 load_fits own spill header s a size u Unset offset known fits g = tt
 load_fits own spill header s a size u (Num n) offset known fits g = tt
 load_fits own spill header s a size u (Map i) offset known fits g = tt
@@ -208,4 +208,4 @@ load_fits own spill header s a size (MapOf i) (Ptr t o) offset known fits g = ab
 load_fits own spill header s a size (Pointer r z) (Ptr t o) offset known fits g =
     let P : Region → Type 0 = λ x. FitsResult (loads header s size (Pointer r z) offset) (load_kind spill a size (Ptr x o) offset) in
     subst P g.0
-    (read_fits own spill header s a size r (access_places r (load_bytes size) o offset) (place_of r (load_bytes size) (z +ℤ offset)) known fits (place_between r (load_bytes size) o offset z g.1))
+    (read_fits own spill header s a size r (access_places r (load_bytes size) o offset) (region_place_of r (load_bytes size) (z +ℤ offset)) known fits (place_between r (load_bytes size) o offset z g.1))

@@ -12,7 +12,7 @@ use Rattle.machine.specs.declared.values.Value.{Value}
 use Rattle.machine.specs.declared.values.Value.TheVariants.{Unset as Nothing, Num as Number, Ptr as Pointer, Map as MapOf}
 use Rattle.machine.specs.Words.{negation, sign_extension, swapped_bytes}
 use Rattle.bpf_parts.specs.Sizes.{size_bytes}
-use Rattle.machine.specs.Memory.{place_of, byte_after, little_endian}
+use Rattle.machine.specs.Memory.{region_place_of, byte_after, little_endian}
 use Rattle.machine.specs.Laws.{BytesAreRead, SameBytes}
 use Rattle.machine.specs.State.{State, state, register_after}
 use Rattle.machine.specs.Step.{Next, Trap, operand, alu, number_result, loads, writes, puts, stores, map_at}
@@ -32,7 +32,7 @@ use Rattle.absdom_stack.specs.declared.spill.Spill.{Spill}
 use Rattle.absdom.specs.Effect.{operand_kind, alu_kind, unary_kind, load_kind, access_places, with_stored, after_write_at, after_store, with_result, map_kind}
 use Rattle.absdom_stack.specs.StackWords.{stored_ranges}
 use Rattle.absdom_stack.specs.Marks.{stored_marks}
-use Rattle.absdom.specs.Fits.{FitsKind, IsByte, IsReadIn, Fits, GoesOn, IsSound, IsIndex}
+use Rattle.absdom.specs.Fits.{FitsKind, IsByte, IsReadIn, Fits, GoesOnFitting, IsStateSound, IsIndex}
 use Rattle.absdom.specs.Laws.{ApplyFits}
 use Rattle.absdom.proofs.FitsAlu.{FitsResult, alu_fits, computed_alone_fits}
 use Rattle.absdom.proofs.FitsMemory.{IsBetween, HasPlace, place_between, IsNumber, little_fits, word_below, load_fits}
@@ -65,11 +65,11 @@ fits_after s a next r v k f fits =
     }
 
 -- a register that may be written is
-written_by_test : (s : State) (a : StateValue) (next r : ℕ) (v : Value) (k : AbsKind) → r ≢ 10 → FitsKind v k → Fits s a → (t : Bool) → (r == 10) ≡ t → GoesOn (if t then Trap else Next (state next (register_after s.registers r v) s.stack)) next (with_kind a r k)
+written_by_test : (s : State) (a : StateValue) (next r : ℕ) (v : Value) (k : AbsKind) → r ≢ 10 → FitsKind v k → Fits s a → (t : Bool) → (r == 10) ≡ t → GoesOnFitting (if t then Trap else Next (state next (register_after s.registers r v) s.stack)) next (with_kind a r k)
 written_by_test s a next r v k ne f fits true e = let eq : r ≡ 10 = grind (arith, nat_tests) in absurd (ne eq)
 written_by_test s a next r v k ne f fits false e = (refl, fits_after s a next r v k f fits)
 
-pub writes_sound : (s : State) (a : StateValue) (next r : ℕ) (value : Option Value) (result : Result AbsKind Cause) → r ≢ 10 → Fits s a → FitsResult value result → IsSound (writes s next r value) next (with_result a r result)
+pub writes_sound : (s : State) (a : StateValue) (next r : ℕ) (value : Option Value) (result : Result AbsKind Cause) → r ≢ 10 → Fits s a → FitsResult value result → IsStateSound (writes s next r value) next (with_result a r result)
 writes_sound s a next r value (Err cause) ne fits f = tt
 writes_sound s a next r None (Ok k) ne fits f = absurd f
 writes_sound s a next r (Some v) (Ok k) ne fits f = written_by_test s a next r v k ne f fits (r == 10) refl
@@ -203,14 +203,14 @@ wrote_fits read own spill s a bytes first last place n value inside between fits
       words = stored_numbers read own spill s a bytes first last place n value inside between fits;
     }
 
-puts_sound : BytesAreRead → SameBytes → (spill : Spill) (s : State) (a : StateValue) (bytes : ℕ) (places : Option (ℕ × ℕ)) (place : Option ℕ) (n : ℕ) (value : Range) → IsIn n value → HasPlace 512 bytes places place → Fits s a → IsSound (puts s bytes place (Number n)) (s.slot + 1) (after_write_at spill a bytes places value)
+puts_sound : BytesAreRead → SameBytes → (spill : Spill) (s : State) (a : StateValue) (bytes : ℕ) (places : Option (ℕ × ℕ)) (place : Option ℕ) (n : ℕ) (value : Range) → IsIn n value → HasPlace 512 bytes places place → Fits s a → IsStateSound (puts s bytes place (Number n)) (s.slot + 1) (after_write_at spill a bytes places value)
 puts_sound read own spill s a bytes None place n value inside h fits = tt
 puts_sound read own spill s a bytes (Some places) None n value inside h fits = absurd h
 puts_sound read own spill s a bytes (Some places) (Some place) n value inside h fits =
     (refl, wrote_fits read own spill s a bytes places.0 places.1 place n value inside h fits)
 
 -- a store of a number through a pointer
-pub store_fits : BytesAreRead → SameBytes → (spill : Spill) (s : State) (a : StateValue) (size : Size) (u v : Value) (p q : AbsKind) (offset : ℤ) → FitsKind u p → FitsKind v q → Fits s a → IsSound (stores s size u offset v) (s.slot + 1) (after_store spill a (size_bytes size) p offset (number_of q))
+pub store_fits : BytesAreRead → SameBytes → (spill : Spill) (s : State) (a : StateValue) (size : Size) (u v : Value) (p q : AbsKind) (offset : ℤ) → FitsKind u p → FitsKind v q → Fits s a → IsStateSound (stores s size u offset v) (s.slot + 1) (after_store spill a (size_bytes size) p offset (number_of q))
 store_fits read own spill s a size u v Unset q offset g h fits = tt
 store_fits read own spill s a size u v (Num b) q offset g h fits = tt
 store_fits read own spill s a size u v (Map i) q offset g h fits = tt
@@ -226,9 +226,9 @@ store_fits read own spill s a size (Pointer r z) Nothing (Ptr Stack o) (Num b) o
 store_fits read own spill s a size (Pointer r z) (Pointer r' z') (Ptr Stack o) (Num b) offset g h fits = absurd h
 store_fits read own spill s a size (Pointer r z) (MapOf i) (Ptr Stack o) (Num b) offset g h fits = absurd h
 store_fits read own spill s a size (Pointer r z) (Number n) (Ptr Stack o) (Num b) offset g h fits =
-    let P : Region → Type 0 = λ x. IsSound (stores s size (Pointer x z) offset (Number n)) (s.slot + 1) (after_write_at spill a (size_bytes size) (access_places Stack (size_bytes size) o offset) b) in
+    let P : Region → Type 0 = λ x. IsStateSound (stores s size (Pointer x z) offset (Number n)) (s.slot + 1) (after_write_at spill a (size_bytes size) (access_places Stack (size_bytes size) o offset) b) in
     subst P (sym g.0)
-    (puts_sound read own spill s a (size_bytes size) (access_places Stack (size_bytes size) o offset) (place_of Stack (size_bytes size) (z +ℤ offset)) n b h (place_between Stack (size_bytes size) o offset z g.1) fits)
+    (puts_sound read own spill s a (size_bytes size) (access_places Stack (size_bytes size) o offset) (region_place_of Stack (size_bytes size) (z +ℤ offset)) n b h (place_between Stack (size_bytes size) o offset z g.1) fits)
 
 -- ---- instructions
 

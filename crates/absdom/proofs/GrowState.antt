@@ -11,7 +11,7 @@ use Rattle.bpf_insn.specs.declared.insn.Insn.TheVariants.{Alu, Negate, MoveSigne
 use Rattle.machine.specs.declared.regions.Region.{Region}
 use Rattle.machine.specs.declared.regions.Region.TheVariants.{Front, Tail, Stack}
 use Rattle.bpf_parts.specs.Sizes.{size_bytes, load_bytes}
-use Rattle.machine.specs.Memory.{region_size, place_of}
+use Rattle.machine.specs.Memory.{region_size, region_place_of}
 use Rattle.absdom_num.specs.declared.ranges.Range.{Range}
 use Rattle.absdom_num.specs.Ranges.{IsRange, IsWithin}
 use Rattle.absdom_num.specs.Tables.{whole_range, single_range, negated_range, extended_range, swapped_range}
@@ -22,7 +22,7 @@ use Rattle.absdom.specs.declared.kinds.AbsKind.{AbsKind}
 use Rattle.absdom.specs.declared.kinds.AbsKind.TheVariants.{Unset, Num, Ptr, Map}
 use Rattle.absdom.specs.Offsets.{AreAmong}
 use Rattle.absdom.specs.Kinds.{number_of, IsKindBelow}
-use Rattle.absdom.specs.State.{StateValue, IsBelow, kind_in, kind_at, range_at, with_kind, IsProper, IsWhole}
+use Rattle.absdom.specs.State.{StateValue, IsStateBelow, kind_in, kind_at, range_at, with_kind, IsProper, IsWhole}
 use Rattle.absdom_stack.specs.Marks.{mark_at, marks_after, AreMarkedIn}
 use Rattle.absdom_stack.specs.StackWords.{range_in, is_touched, is_stack_word, AreRangesWithin}
 use Rattle.absdom_stack.specs.declared.spill.Spill.{Spill}
@@ -55,14 +55,14 @@ below_by_test xs ys r k l e h g q true t =
     let P : ℕ → Type 0 = λ x. IsKindBelow (kind_in (set xs r k) x) (kind_in (set ys r l) x) in
     subst P (sym eq) (below_at_place xs ys r k l e h)
 
-pub with_kind_grows : (a b : StateValue) (r : ℕ) (k l : AbsKind) → length a.kinds ≡ length b.kinds → IsKindBelow k l → IsBelow a b → IsBelow (with_kind a r k) (with_kind b r l)
+pub with_kind_grows : (a b : StateValue) (r : ℕ) (k l : AbsKind) → length a.kinds ≡ length b.kinds → IsKindBelow k l → IsStateBelow a b → IsStateBelow (with_kind a r k) (with_kind b r l)
 with_kind_grows a b r k l e h below =
     record { kinds = λ q. below_by_test a.kinds b.kinds r k l e h below.kinds q (q == r) refl; marks = below.marks; ranges = below.ranges }
 
 same_size : (a b : StateValue) → IsWhole a → IsWhole b → length a.kinds ≡ length b.kinds
 same_size a b p q = p.sizes.registers ∙ sym q.sizes.registers
 
-written_grows : (a b : StateValue) (r : ℕ) (small large : Result AbsKind Cause) → IsWhole a → IsWhole b → IsBelow a b → IsKindGrown small large → IsGrown (with_result a r small) (with_result b r large)
+written_grows : (a b : StateValue) (r : ℕ) (small large : Result AbsKind Cause) → IsWhole a → IsWhole b → IsStateBelow a b → IsKindGrown small large → IsGrown (with_result a r small) (with_result b r large)
 written_grows a b r small (Err cause) p q below h = tt
 written_grows a b r (Err cause) (Ok l) p q below h = absurd h
 written_grows a b r (Ok k) (Ok l) p q below h = with_kind_grows a b r k l (same_size a b p q) h below
@@ -87,7 +87,7 @@ both_between size bytes (Some large) (Some first) (Some last) g h = record { fir
 
 places_between : (region : Region) (bytes : ℕ) (small large : ℤ × ℤ) (offset : ℤ) → small.0 ≤ℤ small.1 → AreAmong small large → HasPlaces (region_size region) bytes (access_places region bytes large offset) (access_places region bytes small offset)
 places_between region bytes small large offset p h =
-    both_between (region_size region) bytes (access_places region bytes large offset) (place_of region bytes (small.0 +ℤ offset)) (place_of region bytes (small.1 +ℤ offset))
+    both_between (region_size region) bytes (access_places region bytes large offset) (region_place_of region bytes (small.0 +ℤ offset)) (region_place_of region bytes (small.1 +ℤ offset))
     (place_between region bytes large offset small.0 (record { above = h.above; below = omega (arith, ints, h.below) }))
     (place_between region bytes large offset small.1 (record { above = omega (arith, ints, h.above); below = h.below }))
 
@@ -116,7 +116,7 @@ whole_loaded SignedHalf e r h = absurd (omega (arith, e))
 whole_loaded SignedWord e r h = absurd (omega (arith, e))
 
 -- by whether the accesses are of one place
-kept_grows : (a b : StateValue) (size : LoadSize) (large small : ℕ × ℕ) → IsWhole a → IsBelow a b → AreWithin 512 (load_bytes size) large small → (t u : Bool) → is_stack_word (load_bytes size) large ≡ t → is_stack_word (load_bytes size) small ≡ u → IsWithin (if u then range_at a (small.0 / 8) else loaded_range size) (if t then range_at b (large.0 / 8) else loaded_range size)
+kept_grows : (a b : StateValue) (size : LoadSize) (large small : ℕ × ℕ) → IsWhole a → IsStateBelow a b → AreWithin 512 (load_bytes size) large small → (t u : Bool) → is_stack_word (load_bytes size) large ≡ t → is_stack_word (load_bytes size) small ≡ u → IsWithin (if u then range_at a (small.0 / 8) else loaded_range size) (if t then range_at b (large.0 / 8) else loaded_range size)
 kept_grows a b size large small p below w false false e f = within-refl (loaded_range size)
 kept_grows a b size large small p below w false true e f =
     let is = word_test (load_bytes size) small f in
@@ -138,14 +138,14 @@ kept_grows a b size large small p below w true false e f =
     let no : true ≡ false = sym yes ∙ f in
     absurd cc
 
-range_grows : (spill : Spill) (a b : StateValue) (size : LoadSize) (region : Region) (large small : ℕ × ℕ) → IsWhole a → IsBelow a b → AreWithin (region_size region) (load_bytes size) large small → IsWithin (read_range spill a size region small) (read_range spill b size region large)
+range_grows : (spill : Spill) (a b : StateValue) (size : LoadSize) (region : Region) (large small : ℕ × ℕ) → IsWhole a → IsStateBelow a b → AreWithin (region_size region) (load_bytes size) large small → IsWithin (read_range spill a size region small) (read_range spill b size region large)
 range_grows Forgets a b size region large small p below w = within-refl (loaded_range size)
 range_grows Keeps a b size Front large small p below w = within-refl (loaded_range size)
 range_grows Keeps a b size Tail large small p below w = within-refl (loaded_range size)
 range_grows Keeps a b size Stack large small p below w =
     kept_grows a b size large small p below w (is_stack_word (load_bytes size) large) (is_stack_word (load_bytes size) small) refl refl
 
-read_by_test : (spill : Spill) (a b : StateValue) (size : LoadSize) (region : Region) (large small : ℕ × ℕ) → IsWhole a → IsBelow a b → AreWithin (region_size region) (load_bytes size) large small → (t : Bool) → is_set region b.marks (load_bytes size) large ≡ t → IsKindGrown (read_kind spill a size region (Some small)) (if t then Ok (Num (read_range spill b size region large)) else Err UnsetStack)
+read_by_test : (spill : Spill) (a b : StateValue) (size : LoadSize) (region : Region) (large small : ℕ × ℕ) → IsWhole a → IsStateBelow a b → AreWithin (region_size region) (load_bytes size) large small → (t : Bool) → is_set region b.marks (load_bytes size) large ≡ t → IsKindGrown (read_kind spill a size region (Some small)) (if t then Ok (Num (read_range spill b size region large)) else Err UnsetStack)
 read_by_test spill a b size region large small p below w false e = tt
 read_by_test spill a b size region large small p below w true e =
     let yes : is_set region a.marks (load_bytes size) small ≡ true
@@ -153,13 +153,13 @@ read_by_test spill a b size region large small p below w true e =
     let P : Bool → Type 0 = λ t. IsKindGrown (if t then Ok (Num (read_range spill a size region small)) else Err UnsetStack) (Ok (Num (read_range spill b size region large))) in
     subst P (sym yes) (range_grows spill a b size region large small p below w)
 
-read_grows : (spill : Spill) (a b : StateValue) (size : LoadSize) (region : Region) (large small : Option (ℕ × ℕ)) → IsWhole a → IsBelow a b → HasPlaces (region_size region) (load_bytes size) large small → IsKindGrown (read_kind spill a size region small) (read_kind spill b size region large)
+read_grows : (spill : Spill) (a b : StateValue) (size : LoadSize) (region : Region) (large small : Option (ℕ × ℕ)) → IsWhole a → IsStateBelow a b → HasPlaces (region_size region) (load_bytes size) large small → IsKindGrown (read_kind spill a size region small) (read_kind spill b size region large)
 read_grows spill a b size region None small p below h = tt
 read_grows spill a b size region (Some large) None p below h = absurd h
 read_grows spill a b size region (Some large) (Some small) p below h =
     read_by_test spill a b size region large small p below h (is_set region b.marks (load_bytes size) large) refl
 
-load_grows : (spill : Spill) (a b : StateValue) (size : LoadSize) (p q : AbsKind) (offset : ℤ) → IsWhole a → IsBelow a b → IsProper p → IsKindBelow p q → IsKindGrown (load_kind spill a size p offset) (load_kind spill b size q offset)
+load_grows : (spill : Spill) (a b : StateValue) (size : LoadSize) (p q : AbsKind) (offset : ℤ) → IsWhole a → IsStateBelow a b → IsProper p → IsKindBelow p q → IsKindGrown (load_kind spill a size p offset) (load_kind spill b size q offset)
 load_grows spill a b size p Unset offset whole below k h = tt
 load_grows spill a b size p (Num n) offset whole below k h = tt
 load_grows spill a b size p (Map i) offset whole below k h = tt
@@ -219,7 +219,7 @@ filled_less spill bytes large small k w h =
       first = omega (arith, w.first.above, w.first.below);
     }
 
-ranges_grow : (spill : Spill) (a b : StateValue) (bytes : ℕ) (large small : ℕ × ℕ) (v w : Range) → IsWhole a → IsWhole b → IsBelow a b → IsRange v → IsWithin v w → AreWithin 512 bytes large small → AreRangesWithin (stored_ranges spill a.ranges bytes small v) (stored_ranges spill b.ranges bytes large w)
+ranges_grow : (spill : Spill) (a b : StateValue) (bytes : ℕ) (large small : ℕ × ℕ) (v w : Range) → IsWhole a → IsWhole b → IsStateBelow a b → IsRange v → IsWithin v w → AreWithin 512 bytes large small → AreRangesWithin (stored_ranges spill a.ranges bytes small v) (stored_ranges spill b.ranges bytes large w)
 ranges_grow spill a b bytes large small v w p q below proper h inside k = by_test (is_touched k large.0 (large.1 + bytes - 1)) refl
   where
     new : Range
@@ -241,7 +241,7 @@ ranges_grow spill a b bytes large small v w p q below proper h inside k = by_tes
               subst P (sym whole) (within_whole new (stored_each IsRange spill a.ranges bytes small v proper whole_proper p.ranges k))
         ]
 
-wrote_grows : (spill : Spill) (a b : StateValue) (bytes : ℕ) (large small : ℕ × ℕ) (v w : Range) → IsWhole a → IsWhole b → IsBelow a b → IsRange v → IsWithin v w → AreWithin 512 bytes large small → IsBelow (with_stored spill a bytes small v) (with_stored spill b bytes large w)
+wrote_grows : (spill : Spill) (a b : StateValue) (bytes : ℕ) (large small : ℕ × ℕ) (v w : Range) → IsWhole a → IsWhole b → IsStateBelow a b → IsRange v → IsWithin v w → AreWithin 512 bytes large small → IsStateBelow (with_stored spill a bytes small v) (with_stored spill b bytes large w)
 wrote_grows spill a b bytes large small v w p q below proper h inside =
     record {
       kinds = below.kinds;
@@ -249,13 +249,13 @@ wrote_grows spill a b bytes large small v w p q below proper h inside =
       ranges = ranges_grow spill a b bytes large small v w p q below proper h inside;
     }
 
-wrote_at_grows : (spill : Spill) (a b : StateValue) (bytes : ℕ) (large small : Option (ℕ × ℕ)) (v w : Range) → IsWhole a → IsWhole b → IsBelow a b → IsRange v → IsWithin v w → HasPlaces 512 bytes large small → IsGrown (after_write_at spill a bytes small v) (after_write_at spill b bytes large w)
+wrote_at_grows : (spill : Spill) (a b : StateValue) (bytes : ℕ) (large small : Option (ℕ × ℕ)) (v w : Range) → IsWhole a → IsWhole b → IsStateBelow a b → IsRange v → IsWithin v w → HasPlaces 512 bytes large small → IsGrown (after_write_at spill a bytes small v) (after_write_at spill b bytes large w)
 wrote_at_grows spill a b bytes None small v w p q below proper h inside = tt
 wrote_at_grows spill a b bytes (Some large) None v w p q below proper h inside = absurd inside
 wrote_at_grows spill a b bytes (Some large) (Some small) v w p q below proper h inside =
     wrote_grows spill a b bytes large small v w p q below proper h inside
 
-store_grows : (spill : Spill) (a b : StateValue) (bytes : ℕ) (p q p' q' : AbsKind) (offset : ℤ) → IsWhole a → IsWhole b → IsBelow a b → IsProper p → IsProper q → IsKindBelow p p' → IsKindBelow q q' → IsGrown (after_store spill a bytes p offset (number_of q)) (after_store spill b bytes p' offset (number_of q'))
+store_grows : (spill : Spill) (a b : StateValue) (bytes : ℕ) (p q p' q' : AbsKind) (offset : ℤ) → IsWhole a → IsWhole b → IsStateBelow a b → IsProper p → IsProper q → IsKindBelow p p' → IsKindBelow q q' → IsGrown (after_store spill a bytes p offset (number_of q)) (after_store spill b bytes p' offset (number_of q'))
 store_grows spill a b bytes p q Unset q' offset x y below k l g h = tt
 store_grows spill a b bytes p q (Num n) q' offset x y below k l g h = tt
 store_grows spill a b bytes p q (Map i) q' offset x y below k l g h = tt
@@ -278,7 +278,7 @@ store_grows spill a b bytes (Ptr r o) (Num m) (Ptr Stack z) (Num n) offset x y b
 
 -- ---- instructions
 
-operand_below : (a b : StateValue) (src : Operand) → IsBelow a b → IsKindBelow (operand_kind a src) (operand_kind b src)
+operand_below : (a b : StateValue) (src : Operand) → IsStateBelow a b → IsKindBelow (operand_kind a src) (operand_kind b src)
 operand_below a b (FromRegister r) below = below.kinds r
 operand_below a b (Immediate z) below = kind_below-refl (operand_kind a (Immediate z))
 

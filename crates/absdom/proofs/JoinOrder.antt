@@ -8,7 +8,7 @@ use Rattle.absdom.specs.declared.kinds.AbsKind.{AbsKind}
 use Rattle.absdom.specs.declared.kinds.AbsKind.TheVariants.{Unset, Num, Ptr, Map}
 use Rattle.absdom.specs.Offsets.{joined_offsets, AreAmong}
 use Rattle.absdom.specs.Kinds.{same_region, joined_kinds, IsKindBelow}
-use Rattle.absdom.specs.State.{IsBelow, kind_at, range_at}
+use Rattle.absdom.specs.State.{IsStateBelow, kind_at, range_at}
 use Rattle.absdom_stack.specs.Marks.{mark_at}
 use Rattle.absdom.specs.Laws.{JoinIsAbove, JoinIsLeast, JoinGrows}
 use Rattle.absdom.proofs.Order.{region_from_test, same_region-refl, below_is_transitive}
@@ -183,5 +183,5 @@ join_is_least a b joint c j g h =
 
 pub join_grows : JoinGrows
 join_grows a b c d first second j k g h =
-    let above : IsBelow c second × IsBelow d second = join_is_above c d second k in
+    let above : IsStateBelow c second × IsStateBelow d second = join_is_above c d second k in
     join_is_least a b first second j (below_is_transitive a c second g above.0) (below_is_transitive b d second h above.1)

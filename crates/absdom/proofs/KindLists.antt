@@ -10,7 +10,7 @@ use Rattle.absdom_stack.specs.StackWords.{AreAllWhole, all_whole, range_in}
 use Rattle.absdom.specs.declared.kinds.AbsKind.{AbsKind}
 use Rattle.absdom.specs.declared.kinds.AbsKind.TheVariants.{Num}
 use Rattle.absdom.specs.Kinds.{IsKindBelow}
-use Rattle.absdom.specs.State.{AreBelow, IsProper, kind_in}
+use Rattle.absdom.specs.State.{AreKindsBelow, IsProper, kind_in}
 
 -- any number
 abbrev pub number : AbsKind
@@ -34,7 +34,7 @@ AreEachBelow [] (k ∷ ks) = ⊥
 AreEachBelow (j ∷ js) [] = ⊥
 AreEachBelow (j ∷ js) (k ∷ ks) = IsKindBelow j k × AreEachBelow js ks
 
-pub each_below : (js ks : List AbsKind) → AreEachBelow js ks → AreBelow js ks
+pub each_below : (js ks : List AbsKind) → AreEachBelow js ks → AreKindsBelow js ks
 each_below [] [] h register = tt
 each_below [] (k ∷ ks) h register = absurd h
 each_below (j ∷ js) [] h register = absurd h

@@ -24,13 +24,13 @@ use Rattle.absdom.specs.declared.cause.Cause.{Cause}
 use Rattle.absdom.specs.declared.kinds.AbsKind.{AbsKind}
 use Rattle.absdom.specs.declared.kinds.AbsKind.TheVariants.{Unset, Num, Ptr, Map}
 use Rattle.absdom.specs.Kinds.{number_of, IsKindBelow}
-use Rattle.absdom.specs.State.{StateValue, IsBelow, IsProper, IsWhole, kind_at, with_kind, after_call}
+use Rattle.absdom.specs.State.{StateValue, IsStateBelow, IsProper, IsWhole, kind_at, with_kind, after_call}
 use Rattle.absdom_stack.specs.StackWords.{AreAllWhole}
 use Rattle.absdom_stack.specs.declared.spill.Spill.{Spill}
 use Rattle.absdom_stack.specs.declared.spill.Spill.TheVariants.{Forgets}
 use Rattle.absdom.specs.Effect.{operand_kind, with_stored, after_write_at, after_write_to, after_store, with_result}
 use Rattle.absdom.specs.Edges.{compared_range, with_source, edge_state, edge_states, unrefined_edges, is_itself, edges_of, compared_edges}
-use Rattle.absdom.specs.Laws.{IsLeftBy, ApplyLeaves, CallLeaves, ForgetsAll, AreEdgesBelow, RefineShrinks}
+use Rattle.absdom.specs.Laws.{IsKnownLeftBy, ApplyLeaves, CallLeaves, ForgetsAll, AreEdgesBelow, StateRefineShrinks}
 use Rattle.absdom.proofs.Order.{below_is_reflexive}
 use Rattle.absdom.proofs.Narrowing.{write_same}
 use Rattle.absdom.proofs.GrowState.{operand_proper, with_kind_grows}
@@ -40,9 +40,9 @@ use Rattle.absdom_stack.proofs.WordSteps.{still_whole, stored_each, whole_proper
 -- ---- what an instruction keeps
 
 abbrev Leaves : Insn → StateValue → Result StateValue Cause → Type 0
-Leaves insn a r = IfOk r (IsLeftBy insn a)
+Leaves insn a r = IfOk r (IsKnownLeftBy insn a)
 
-same : (insn : Insn) (a : StateValue) → IsLeftBy insn a a
+same : (insn : Insn) (a : StateValue) → IsKnownLeftBy insn a a
 same insn a = record { kinds = λ k h. refl; marks = λ place m. m; unstored = λ h. refl; ranges = λ h. refl; proper = λ whole. whole.ranges }
 
 other_kind : (a : StateValue) (register k : ℕ) (kind : AbsKind) → (register == k) ≡ false → kind_at (with_kind a register kind) k ≡ kind_at a k
@@ -57,7 +57,7 @@ named register k h = grind (arith, nat_tests)
 abbrev Names : Insn → (register : ℕ) → Type 0
 Names insn register = (k : ℕ) → is_written insn k ≡ false → (register == k) ≡ false
 
-leaves_others : (insn : Insn) (a : StateValue) (register : ℕ) (kind : AbsKind) → Names insn register → IsLeftBy insn a (with_kind a register kind)
+leaves_others : (insn : Insn) (a : StateValue) (register : ℕ) (kind : AbsKind) → Names insn register → IsKnownLeftBy insn a (with_kind a register kind)
 leaves_others insn a register kind names =
     record { kinds = λ k h. other_kind a register k kind (names k h); marks = λ place m. m; unstored = λ h. refl; ranges = λ h. refl; proper = λ whole. whole.ranges }
 
@@ -67,7 +67,7 @@ leaves_written insn a register (Ok kind) names = leaves_others insn a register k
 
 -- a store
 
-leaves_wrote : (spill : Spill) (insn : Insn) (a : StateValue) (bytes : ℕ) (places : ℕ × ℕ) (value : Range) → (IsWhole a → IsRange value) → is_store insn ≡ true → IsLeftBy insn a (with_stored spill a bytes places value)
+leaves_wrote : (spill : Spill) (insn : Insn) (a : StateValue) (bytes : ℕ) (places : ℕ × ℕ) (value : Range) → (IsWhole a → IsRange value) → is_store insn ≡ true → IsKnownLeftBy insn a (with_stored spill a bytes places value)
 leaves_wrote spill insn a bytes places value proper is =
     record {
       kinds = λ k h. refl;
@@ -183,7 +183,7 @@ call_leaves a callee number =
 -- ---- a comparison only refines
 
 -- a register of a state below another one gets a kind below the one that it has there
-with_kind_below : (b a : StateValue) (register : ℕ) (kind : AbsKind) → length b.kinds ≡ length a.kinds → IsKindBelow kind (kind_at a register) → IsBelow b a → IsBelow (with_kind b register kind) a
+with_kind_below : (b a : StateValue) (register : ℕ) (kind : AbsKind) → length b.kinds ≡ length a.kinds → IsKindBelow kind (kind_at a register) → IsStateBelow b a → IsStateBelow (with_kind b register kind) a
 with_kind_below b a register kind e h below =
     let grown = with_kind_grows b a register kind (kind_at a register) e h below in
     let back : with_kind a register (kind_at a register) ≡ a =
@@ -201,12 +201,12 @@ number_is a register (Num own) range new is e h =
 number_is a register (Ptr region offsets) range new is e h = absurd cc
 number_is a register (Map index) range new is e h = absurd cc
 
-source_below : (b a : StateValue) (width : Width) (src : Operand) (range new : Range) → compared_range width a src ≡ Ok range → IsWithin new range → length b.kinds ≡ length a.kinds → IsBelow b a → IsBelow (with_source b src new) a
+source_below : (b a : StateValue) (width : Width) (src : Operand) (range new : Range) → compared_range width a src ≡ Ok range → IsWithin new range → length b.kinds ≡ length a.kinds → IsStateBelow b a → IsStateBelow (with_source b src new) a
 source_below b a width (FromRegister register) range new e h sizes below =
     with_kind_below b a register (Num new) sizes (number_is a register (kind_at a register) range new refl e h) below
 source_below b a width (Immediate value) range new e h sizes below = below
 
-edge_below : (a : StateValue) (width : Width) (dst : ℕ) (src : Operand) (left right : Range) (new : Option Operands) → number_of (kind_at a dst) ≡ Ok left → compared_range width a src ≡ Ok right → AreRangesBelow new (Some (record { dst = left; src = right })) → IfSome (edge_state a dst src new) (λ edge. IsBelow edge a)
+edge_below : (a : StateValue) (width : Width) (dst : ℕ) (src : Operand) (left right : Range) (new : Option Operands) → number_of (kind_at a dst) ≡ Ok left → compared_range width a src ≡ Ok right → AreRangesBelow new (Some (record { dst = left; src = right })) → IfSome (edge_state a dst src new) (λ edge. IsStateBelow edge a)
 edge_below a width dst src left right None e f h = tt
 edge_below a width dst src left right (Some new) e f h =
     source_below (with_kind a dst (Num new.dst)) a width src right new.src f h.1 (length-set a.kinds dst (Num new.dst))
@@ -229,5 +229,5 @@ compared_below shrink a condition width dst src (Err cause) right e f = tt
 compared_below shrink a condition width dst src (Ok left) (Err cause) e f = tt
 compared_below shrink a condition width dst src (Ok left) (Ok right) e f = edges_below shrink a condition width dst src left right e f
 
-pub refine_shrinks : RangesShrink → RefineShrinks
+pub refine_shrinks : RangesShrink → StateRefineShrinks
 refine_shrinks shrink a condition width dst src = compared_below shrink a condition width dst src _ _ refl refl

@@ -19,7 +19,7 @@ use Rattle.machine.specs.declared.regions.Region.{Region}
 use Rattle.machine.specs.declared.regions.Region.TheVariants.{Front, Tail, Stack}
 use Rattle.machine.specs.Words.{word, signed_value}
 use Rattle.bpf_parts.specs.Sizes.{size_bytes, load_bytes}
-use Rattle.machine.specs.Memory.{place_of}
+use Rattle.machine.specs.Memory.{region_place_of}
 use Rattle.absdom_num.specs.declared.ranges.Range.{Range}
 use Rattle.absdom_num.specs.Tables.{single_range, alu_range, negated_range, extended_range, swapped_range}
 use Rattle.absdom.specs.declared.cause.Cause.{Cause}
@@ -139,7 +139,7 @@ both_places (Some a) (Some b) = Some (a, b)
 -- two is not wholly inside the region.
 abbrev pub access_places : Region → (bytes : ℕ) → ℤ × ℤ → (offset : ℤ) → Option (ℕ × ℕ)
 access_places region bytes offsets offset =
-    both_places (place_of region bytes (offsets.0 +ℤ offset)) (place_of region bytes (offsets.1 +ℤ offset))
+    both_places (region_place_of region bytes (offsets.0 +ℤ offset)) (region_place_of region bytes (offsets.1 +ℤ offset))
 
 -- whether all bytes of an access are set; those of the header always are
 abbrev pub is_set : Region → List Bool → (bytes : ℕ) → ℕ × ℕ → Bool

@@ -60,16 +60,16 @@ pub record Fits (s : State) (a : StateValue) : Type 0 where
       → IsReadIn (little_endian s.stack 8 (8 * word)) (range_at a word)
 
 -- the machine goes on at that slot, in a state that fits: it neither traps nor ends
-abbrev pub GoesOn : Outcome → (slot : ℕ) → StateValue → Type 0
-GoesOn (Next t) slot a = (t.slot ≡ slot) × Fits t a
-GoesOn (Ask question on) slot a = ⊥
-GoesOn (Verdict n) slot a = ⊥
-GoesOn Trap slot a = ⊥
+abbrev pub GoesOnFitting : Outcome → (slot : ℕ) → StateValue → Type 0
+GoesOnFitting (Next t) slot a = (t.slot ≡ slot) × Fits t a
+GoesOnFitting (Ask question on) slot a = ⊥
+GoesOnFitting (Verdict n) slot a = ⊥
+GoesOnFitting Trap slot a = ⊥
 
 -- if an instruction is not refused, the machine goes on in a state that fits
-abbrev pub IsSound : Outcome → (slot : ℕ) → Result StateValue Cause → Type 0
-IsSound outcome slot (Err cause) = Unit {0}
-IsSound outcome slot (Ok a) = GoesOn outcome slot a
+abbrev pub IsStateSound : Outcome → (slot : ℕ) → Result StateValue Cause → Type 0
+IsStateSound outcome slot (Err cause) = Unit {0}
+IsStateSound outcome slot (Ok a) = GoesOnFitting outcome slot a
 
 -- the state fits what is known on an edge; no state fits an edge that is not followed
 abbrev pub FitsEdge : State → Option StateValue → Type 0

@@ -84,12 +84,12 @@ pub record IsEntry (a : StateValue) : Type 0 where
   pub ranges : AreAllWhole a.ranges
 
 -- each kind of the first list is contained in that of the second
-abbrev pub AreBelow : List AbsKind → List AbsKind → Type 0
-AreBelow first second = (register : ℕ) → IsKindBelow (kind_in first register) (kind_in second register)
+abbrev pub AreKindsBelow : List AbsKind → List AbsKind → Type 0
+AreKindsBelow first second = (register : ℕ) → IsKindBelow (kind_in first register) (kind_in second register)
 
 -- the first says all that the second says
-pub record IsBelow (a b : StateValue) : Type 0 where
-  pub kinds : AreBelow a.kinds b.kinds
+pub record IsStateBelow (a b : StateValue) : Type 0 where
+  pub kinds : AreKindsBelow a.kinds b.kinds
   pub marks : AreMarkedIn b.marks a.marks
   pub ranges : AreRangesWithin a.ranges b.ranges
 
@@ -102,7 +102,7 @@ AreJoined first second joint =
 
 -- Register by register the least kind above both, and word by word the least range that holds both. A byte is set if
 -- it is set in both.
-pub record IsJoin (a b joint : StateValue) : Type 0 where
+pub record IsStateJoin (a b joint : StateValue) : Type 0 where
   pub kinds : AreJoined a.kinds b.kinds joint.kinds
   pub marks : AreInBoth a.marks b.marks joint.marks
   pub ranges : AreRangesJoined a.ranges b.ranges joint.ranges

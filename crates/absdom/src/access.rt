@@ -2,7 +2,7 @@
 
 ghost use Rattle.std.specs.Prelude.{◌≡◌, ◌+◌, ◌-◌, ◌^◌, ◌<◌, ◌≤◌, ◌≤ℤ◌, ◌+ℤ◌, pos, negsuc, IfSome, Some};
 ghost use Rattle.bpf_parts.specs.Sizes.{size_bytes, load_bytes};
-ghost use Rattle.machine.specs.Memory.{place_within, place_of};
+ghost use Rattle.machine.specs.Memory.{place_within, region_place_of};
 ghost use Rattle.absdom.specs.Offsets.{IsOffset};
 ghost use Rattle.absdom.specs.Effect.{access_places, is_set, loaded_range, kept_range, read_range, load_kind, after_stack_write, Becomes, Stores};
 ghost use Rattle.absdom_stack.specs.Marks.{AreInside};
@@ -48,7 +48,7 @@ fn place(region: Region, bytes: usize, offset: i32) -> Option<usize>
     requires low { negsuc 100000 ≤ℤ offset }
     requires high { offset ≤ℤ pos 100000 }
     requires bytes { bytes ≤ 8 }
-    ensures value { result ≡ place_of region bytes offset }
+    ensures value { result ≡ region_place_of region bytes offset }
     ensures bound { IfSome result (λ first. first + bytes ≤ STACK_SIZE) }
 {
     let from_start = match region {

@@ -1,6 +1,6 @@
 //! Laws about states. Each function does nothing: its contract is the law.
 
-ghost use Rattle.absdom.specs.Laws.{BelowFits, BelowIsReflexive, BelowIsTransitive, BelowIsAntisymmetric, EntryFits, CallFits, JoinIsAbove, JoinIsLeast, ApplyFits, RefineFits, ApplyGrows, RefineGrows, JoinGrows, CallGrows, ApplyLeaves, CallLeaves, ForgetsAll, RefineShrinks};
+ghost use Rattle.absdom.specs.Laws.{BelowFits, BelowIsReflexive, BelowIsTransitive, BelowIsAntisymmetric, EntryFits, CallFits, JoinIsAbove, JoinIsLeast, ApplyFits, StateRefineFits, ApplyGrows, StateRefineGrows, JoinGrows, CallGrows, ApplyLeaves, CallLeaves, ForgetsAll, StateRefineShrinks};
 
 /// A law and no work: whatever fits a state fits every state above it, and the states are in an order.
 pub fn order_of_states()
@@ -50,7 +50,7 @@ pub fn join_is_least()
 ///
 /// [`refine`]: crate::refine
 pub fn refine_fits()
-    ensures { RefineFits }
+    ensures { StateRefineFits }
 {
     absdom_num::edges_fit();
 }
@@ -86,7 +86,7 @@ pub fn forgets_all()
 ///
 /// [`refine`]: crate::refine
 pub fn refine_shrinks()
-    ensures { RefineShrinks }
+    ensures { StateRefineShrinks }
 {
     absdom_num::edges_shrink();
 }
@@ -103,7 +103,7 @@ pub fn after_call_grows()
 ///
 /// [`refine`]: crate::refine
 pub fn refine_grows()
-    ensures { RefineGrows }
+    ensures { StateRefineGrows }
 {
     absdom_num::edges_grow();
 }

@@ -3,7 +3,7 @@
 ghost use Rattle.std.specs.Prelude.{◌≡◌, ◌+◌, ◌<◌, ◌≤◌, ◌-◌, ℕ, ◌↔◌, IsTrue, false, length};
 ghost use Rattle.machine.specs.declared.regions.TheConstants.{STACK_SIZE};
 ghost use Rattle.absdom.specs.Kinds.{joined_kinds, IsKindBelow};
-ghost use Rattle.absdom.specs.State.{IsState, IsWhole, IsBelow, IsJoin, IsEntry, kind_at, kind_in, range_at, with_kind, with_stack, after_call, entry_kinds, AreJoined, AreBelow};
+ghost use Rattle.absdom.specs.State.{IsState, IsWhole, IsStateBelow, IsStateJoin, IsEntry, kind_at, kind_in, range_at, with_kind, with_stack, after_call, entry_kinds, AreJoined, AreKindsBelow};
 ghost use Rattle.absdom_stack.specs.Marks.{mark_at, all_marked};
 ghost use Rattle.absdom_stack.specs.StackWords.{all_whole, range_in, AreAllWhole};
 ghost use Rattle.absdom.specs.Effect.{with_stored};
@@ -126,7 +126,7 @@ impl State {
     /// Grows to the least state above both, register by register and word by word. A byte is set if it is set in
     /// both.
     pub fn join(&mut self, other: &State)
-        ensures joint { IsJoin self.old other.now self.new }
+        ensures joint { IsStateJoin self.old other.now self.new }
         ensures known { IsState self.new }
         ensures whole { IsWhole self.new }
     {
@@ -137,7 +137,7 @@ impl State {
 
     /// Whether this state says all that the other says.
     pub fn leq(&self, other: &State) -> bool
-        ensures { IsTrue result ↔ IsBelow self.now other.now }
+        ensures { IsTrue result ↔ IsStateBelow self.now other.now }
     {
         if !are_below(&self.registers.kinds, &other.registers.kinds) {
             return false;
@@ -234,7 +234,7 @@ fn join_kinds(a: &mut [AbsKind; REGISTERS], b: &[AbsKind; REGISTERS])
 
 /// Whether each kind is below the other's of the same register.
 fn are_below(a: &[AbsKind; REGISTERS], b: &[AbsKind; REGISTERS]) -> bool
-    ensures { IsTrue result ↔ AreBelow a.now b.now }
+    ensures { IsTrue result ↔ AreKindsBelow a.now b.now }
 {
     for register in 0..REGISTERS {
         if !a[register].leq(&b[register]) {

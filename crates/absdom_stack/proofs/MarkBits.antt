@@ -6,16 +6,16 @@ use Rattle.std.proofs.lemmas.Nat.Bits.{bit_at_lowest, bit_at-suc, bit_at-zero, b
 use Rattle.std.specs.Int.{bit_at}
 use Rattle.std.specs.Int.Bits.{bit_and}
 use Rattle.absdom_stack.specs.Marks.{mark_at}
-use Rattle.absdom_stack.specs.Bits.{bits_of, is_bit, marks_of, length-bits}
+use Rattle.absdom_stack.specs.Bits.{bits_of_word, is_bit, marks_of, length-bits}
 
 pub length-marks : (words : List ℕ) → length (marks_of words) ≡ 64 * length words
 unfolding marks_of
 length-marks [] = refl
 length-marks (word ∷ words) =
-    length-append (bits_of 64 word) (marks_of words) ∙ omega (arith, length-bits 64 word, length-marks words)
+    length-append (bits_of_word 64 word) (marks_of words) ∙ omega (arith, length-bits 64 word, length-marks words)
 
-bit_of : (count word i : ℕ) → i < count → get_or (bits_of count word) i false ≡ is_bit word i
-unfolding bits_of
+bit_of : (count word i : ℕ) → i < count → get_or (bits_of_word count word) i false ≡ is_bit word i
+unfolding bits_of_word
 bit_of zero word i h = absurd (omega arith)
 bit_of (suc count) word zero h = ap (λ x. x == 1) (sym (bit_at_lowest word))
 bit_of (suc count) word (suc i) h = bit_of count (word / 2) i (omega arith) ∙ ap (λ x. x == 1) (sym (bit_at-suc word i))
@@ -28,13 +28,13 @@ mark_of (word ∷ words) place = elim (cases_lt place 64) [
   | inl below ↦
       let first : place / 64 ≡ 0 = omega arith in
       let same : place % 64 ≡ place = omega arith in
-      let inside : place < length (bits_of 64 word) = omega (arith, length-bits 64 word) in
-      get_or_append_left (bits_of 64 word) (marks_of words) false place inside ∙ bit_of 64 word place below
+      let inside : place < length (bits_of_word 64 word) = omega (arith, length-bits 64 word) in
+      get_or_append_left (bits_of_word 64 word) (marks_of words) false place inside ∙ bit_of 64 word place below
       ∙ ap (λ i. is_bit word i) (sym same) ∙ ap (λ k. is_bit (get_or (word ∷ words) k 0) (place % 64)) (sym first)
   | inr past ↦
       let later : place / 64 ≡ suc ((place - 64) / 64) = omega arith in
       let same : place % 64 ≡ (place - 64) % 64 = omega arith in
-      get_or-append_right (bits_of 64 word) (marks_of words) 64 place false (length-bits 64 word) past ∙ mark_of words (place - 64)
+      get_or-append_right (bits_of_word 64 word) (marks_of words) 64 place false (length-bits 64 word) past ∙ mark_of words (place - 64)
       ∙ ap (λ i. is_bit (get_or words ((place - 64) / 64) 0) i) (sym same) ∙ ap (λ k. is_bit (get_or (word ∷ words) k 0) (place % 64)) (sym later)
 ]
 

@@ -20,15 +20,15 @@ pub struct Marks {
 
 impl Model for Marks {
     ghost use Rattle.std.specs.Prelude.{◌≡◌, List, Bool, length};
-    ghost use Rattle.absdom_stack.specs.Bits.{AreWords, marks_of, words_of, words_from_marks};
+    ghost use Rattle.absdom_stack.specs.Bits.{AreEightWords, marks_of, words_of_bits, words_from_marks};
 
     ghost Value = { List Bool };
 
     ghost view = { λ m. marks_of m.words };
 
-    ghost invariant = { λ m. AreWords m.words };
+    ghost invariant = { λ m. AreEightWords m.words };
 
-    ghost inverse = { λ marks. record { words = words_of 8 marks } };
+    ghost inverse = { λ marks. record { words = words_of_bits 8 marks } };
 
     ghost inverse_ok = { λ m h i. record { words = words_from_marks m.words h i } };
 }

@@ -12,7 +12,7 @@ use Rattle.annals.specs.declared.deed.Deed.{Deed}
 use Rattle.annals.specs.declared.deed.Deed.TheVariants.{Opens, Does, Asks, Shows}
 use Rattle.annals.specs.declared.deed.Link.{Link}
 use Rattle.annals.specs.Chains.{ChainValue, LineValue, at_bank, chain_of, line_with, link}
-use Rattle.annals.specs.Banks.{CountsOn, numbers_at, with_entry, entries_in, entries_of, memory_after, zeros, IsKept}
+use Rattle.annals.specs.Banks.{CountsOn, numbers_at, with_entry, entries_in, entries_of, memory_after, zeros, IsBankKept}
 use Rattle.annals.proofs.Dues.{at_append, at_other, at_own, numbers_append, own_snoc}
 use Rattle.bank.proofs.Banks.{numbers_of-same, numbers_of-other, range_more}
 use Rattle.bank.proofs.Banks.{fitting}
@@ -100,12 +100,12 @@ share_stays b s j n left none = go (has_room b j.port) refl where
 
 -- a bank of zeros is what a chain says that has just begun with it
 pub fresh_kept : (b : BankValue) (c : ChainValue) (first size : ℕ) (journal : JournalValue) (ports : ℕ) (extent : ℕ × ℕ) → b ≡ fresh_bank first size journal ports
-    → extent.0 ≡ b.first → extent.1 ≡ length b.bytes → memory_after c.number c.log ≡ zeros extent → entries_of c.number c.log ≡ [] → IsKept b c
+    → extent.0 ≡ b.first → extent.1 ≡ length b.bytes → memory_after c.number c.log ≡ zeros extent → entries_of c.number c.log ≡ [] → IsBankKept b c
 fresh_kept b c first size journal ports extent is at bytes memory entries =
     let here : extent.0 ≡ first = at ∙ ap (λ (v : BankValue). v.first) is in
     let many : extent.1 ≡ size = bytes ∙ (ap (λ (v : BankValue). length v.bytes) is ∙ length-replicate size zero) in
     let begun : zeros extent ≡ memory_at first (replicate size 0) = ap (λ (n : ℕ). memory_at n (replicate extent.1 0)) here ∙ ap (λ (n : ℕ). memory_at first (replicate n 0)) many in
-    subst (λ (v : BankValue). IsKept v c) (sym is) (record {
+    subst (λ (v : BankValue). IsBankKept v c) (sym is) (record {
       replayed = sym (memory ∙ begun);
       counted = λ port below.
           let within : port < ports = omega (arith, below, length-replicate ports zero) in

@@ -12,7 +12,7 @@ use Rattle.annals.specs.declared.deed.Act.TheVariants.{Leaves, Sets, Rotates, Pu
 use Rattle.annals.specs.declared.deed.Deed.{Deed}
 use Rattle.annals.specs.declared.deed.Deed.TheVariants.{Opens, Does, Asks, Shows}
 use Rattle.annals.specs.declared.deed.Link.{Link}
-use Rattle.annals.specs.Chains.{AreAsked, Due, IsDue, asked_by, asked_in, at_bank, at_chain, chain_of, done_for, left_in, line_of, link, owner_of, with_asked, with_done, with_left}
+use Rattle.annals.specs.Chains.{AreAskedBefore, Due, IsDue, asked_by, asked_in, at_bank, at_chain, chain_of, done_for, left_in, line_chain_of, link, owner_of, with_asked, with_done, with_left}
 use Rattle.annals.specs.Banks.{entries_in, entries_of, numbers_at, with_entry}
 use Rattle.lemmas.proofs.Prefixes.{prefix_trans, prefix_self, prefix_whole, prefix_length}
 
@@ -50,14 +50,14 @@ asked_append (l ∷ ls) ms = ap (with_asked l.deed) (asked_append ls ms) ∙ ask
 
 pub asked_prefix : (owner : ℕ) (xs ys : List Link) → IsPrefix xs ys → IsPrefix (asked_by owner xs) (asked_by owner ys)
 asked_prefix owner xs ys p =
-    let c = chain_prefix (line_of owner) xs ys p in
-    (asked_in c.0, sym (asked_append (chain_of (line_of owner) xs) c.0) ∙ ap asked_in c.1)
+    let c = chain_prefix (line_chain_of owner) xs ys p in
+    (asked_in c.0, sym (asked_append (chain_of (line_chain_of owner) xs) c.0) ∙ ap asked_in c.1)
 
 -- a line that asks for one more
-pub asked_more : (owner place next : ℕ) (log : List Link) (due : Due) → asked_by owner (log ++ link (line_of owner) place (Asks due) next ∷ []) ≡ asked_by owner log ++ due ∷ []
+pub asked_more : (owner place next : ℕ) (log : List Link) (due : Due) → asked_by owner (log ++ link (line_chain_of owner) place (Asks due) next ∷ []) ≡ asked_by owner log ++ due ∷ []
 asked_more owner place next log due =
-    ap asked_in (own_snoc (line_of owner) log (link (line_of owner) place (Asks due) next) refl)
-    ∙ asked_append (chain_of (line_of owner) log) (link (line_of owner) place (Asks due) next ∷ [])
+    ap asked_in (own_snoc (line_chain_of owner) log (link (line_chain_of owner) place (Asks due) next) refl)
+    ∙ asked_append (chain_of (line_chain_of owner) log) (link (line_chain_of owner) place (Asks due) next ∷ [])
 
 -- ---- what was done
 
@@ -257,12 +257,12 @@ snoc_prefix : (log : List Link) (e : Link) → IsPrefix log (log ++ e ∷ [])
 snoc_prefix log e = (e ∷ [], refl)
 
 -- what did nothing keeps the order
-pub none_asked : (log : List Link) (e : Link) → LeavesNone e → AreAsked log → AreAsked (log ++ e ∷ [])
+pub none_asked : (log : List Link) (e : Link) → LeavesNone e → AreAskedBefore log → AreAskedBefore (log ++ e ∷ [])
 none_asked log e none asked = λ owner.
     rw (same_done owner log e (none owner)) (prefix_trans (done_for owner log) (asked_by owner log) (asked_by owner (log ++ e ∷ [])) (asked owner) (asked_prefix owner log (log ++ e ∷ []) (snoc_prefix log e)))
 
-does_asked : (log v : List Link) (chain place next : ℕ) (a : Act) → IsPrefix v log → chain_of chain v ≡ chain_of chain log → IsDue chain (Does a) v → AreAsked log
-    → AreAsked (log ++ link chain place (Does a) next ∷ [])
+does_asked : (log v : List Link) (chain place next : ℕ) (a : Act) → IsPrefix v log → chain_of chain v ≡ chain_of chain log → IsDue chain (Does a) v → AreAskedBefore log
+    → AreAskedBefore (log ++ link chain place (Does a) next ∷ [])
 does_asked log v chain place next a pre same due asked = λ owner. by owner (owner_of a == owner) refl where
   e : Link
   e = link chain place (Does a) next
@@ -279,8 +279,8 @@ does_asked log v chain place next a pre same due asked = λ owner. by owner (own
       rw (same_done owner log e none) (prefix_trans (done_for owner log) (asked_by owner log) (asked_by owner (log ++ e ∷ [])) (asked owner) (asked_prefix owner log (log ++ e ∷ []) (snoc_prefix log e)))
 
 -- a deed that is due keeps the order
-pub still_asked : (log v : List Link) (chain place next : ℕ) (deed : Deed) → IsPrefix v log → chain_of chain v ≡ chain_of chain log → IsDue chain deed v → AreAsked log
-    → AreAsked (log ++ link chain place deed next ∷ [])
+pub still_asked : (log v : List Link) (chain place next : ℕ) (deed : Deed) → IsPrefix v log → chain_of chain v ≡ chain_of chain log → IsDue chain deed v → AreAskedBefore log
+    → AreAskedBefore (log ++ link chain place deed next ∷ [])
 still_asked log v chain place next (Opens x) pre same due asked = none_asked log (link chain place (Opens x) next) (λ owner. refl) asked
 still_asked log v chain place next (Does a) pre same due asked = does_asked log v chain place next a pre same due asked
 still_asked log v chain place next (Asks x) pre same due asked = none_asked log (link chain place (Asks x) next) (λ owner. refl) asked
@@ -293,20 +293,20 @@ both_begin : {A : Type 0} (xs ys : List A) → IsPrefix xs ys → IsPrefix ys xs
 both_begin xs ys p q = prefix_whole xs ys p (prefix_length ys xs q)
 
 -- if the line has asked for one more, that one is due
-pub asks_next : (owner place next : ℕ) (own before left reached : List Link) (due : Due) → AreAsked before → chain_of (line_of owner) before ≡ chain_of (line_of owner) own
-    → IsPrefix (asked_by owner own) (done_for owner left) → IsPrefix left before → reached ≡ before ++ link (line_of owner) place (Asks due) next ∷ []
+pub asks_next : (owner place next : ℕ) (own before left reached : List Link) (due : Due) → AreAskedBefore before → chain_of (line_chain_of owner) before ≡ chain_of (line_chain_of owner) own
+    → IsPrefix (asked_by owner own) (done_for owner left) → IsPrefix left before → reached ≡ before ++ link (line_chain_of owner) place (Asks due) next ∷ []
     → asked_by owner reached ≡ done_for owner reached ++ due ∷ []
 asks_next owner place next own before left reached due asked same all pre is =
     let mine : asked_by owner before ≡ asked_by owner own = ap asked_in same in
     let low : IsPrefix (asked_by owner before) (done_for owner before) =
     rw mine (prefix_trans (asked_by owner own) (done_for owner left) (done_for owner before) all (done_prefix owner left before pre)) in
     let even : done_for owner before ≡ asked_by owner before = both_begin (done_for owner before) (asked_by owner before) (asked owner) low in
-    let e = link (line_of owner) place (Asks due) next in
+    let e = link (line_chain_of owner) place (Asks due) next in
     let stays : done_for owner reached ≡ done_for owner before = ap (done_for owner) is ∙ same_done owner before e refl in
     ap (asked_by owner) is ∙ (asked_more owner place next before due ∙ ap (λ (ds : List Due). ds ++ due ∷ []) (sym even ∙ sym stays))
 
 -- and after it was done, all that the line asked for was done
-pub all_left : (owner chain place next : ℕ) (reached before after : List Link) (a : Act) → owner_of a ≡ owner → AreAsked before → IsPrefix reached before
+pub all_left : (owner chain place next : ℕ) (reached before after : List Link) (a : Act) → owner_of a ≡ owner → AreAskedBefore before → IsPrefix reached before
     → chain_of chain reached ≡ chain_of chain before → asked_by owner reached ≡ done_for owner reached ++ (chain, a) ∷ []
     → after ≡ before ++ link chain place (Does a) next ∷ [] → IsPrefix (asked_by owner reached) (done_for owner after)
 all_left owner chain place next reached before after a own asked pre same due is =

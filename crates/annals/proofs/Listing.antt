@@ -11,7 +11,7 @@ use Rattle.annals.specs.declared.deed.Deed.TheVariants.{Opens, Does, Asks, Shows
 use Rattle.annals.specs.declared.deed.Link.{Link}
 use Rattle.annals.specs.Chains.{IsDue}
 use Rattle.annals.specs.Publishes.{publishes_of}
-use Rattle.annals.specs.Shown.{AreListed, IsTakenAt, shown_in, shows}
+use Rattle.annals.specs.Shown.{AreListed, IsTakenAtMoment, shown_in, shows}
 use Rattle.lemmas.proofs.Prefixes.{prefix_either, prefix_length, prefix_self, prefix_shorter, prefix_trans, prefix_whole}
 use Rattle.annals.proofs.Publishings.{publishes_begin}
 
@@ -121,7 +121,7 @@ take_front (x ∷ xs) ys = ap (λ zs. x ∷ zs) (take_front xs ys)
 
 -- a table of that many programs is what readers saw at that moment
 pub taken_at : (known reached table : List Link) (count : ℕ) → IsMoment known reached count → AreListed reached → IsPrefix table reached → length (publishes_of table) ≡ count
-    → IsTakenAt known reached (publishes_of table)
+    → IsTakenAtMoment known reached (publishes_of table)
 taken_at known reached table count moment listed begins many =
     let ours = publishes_of table in
     let there = publishes_of moment.at in

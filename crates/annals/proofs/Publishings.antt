@@ -10,7 +10,7 @@ use Rattle.annals.specs.declared.deed.Act.TheVariants.{Leaves, Sets, Rotates, Pu
 use Rattle.annals.specs.declared.deed.Deed.{Deed}
 use Rattle.annals.specs.declared.deed.Deed.TheVariants.{Opens, Does, Asks, Shows}
 use Rattle.annals.specs.declared.deed.Link.{Link}
-use Rattle.annals.specs.Chains.{Due, at_bank, at_chain, chain_of, left_in, link, IsFirst}
+use Rattle.annals.specs.Chains.{Due, at_bank, at_chain, chain_of, left_in, link, IsFirstOfChain}
 use Rattle.annals.specs.Publishes.{EntriesAreNoLoads, LoadsAreListed, LoadsAreNoEntries, loads_in, published_in, with_published, with_publish, publishes_in, publishes_of, publishes_chain}
 use Rattle.annals.proofs.Dues.{acts_append, at_append, chain_prefix, own_snoc}
 
@@ -47,7 +47,7 @@ publishes_more c old before log place next by publish same more =
     ∙ ap (λ (ls : List Link). publishes_in ls ++ publish ∷ []) same))
 
 -- a chain that begins has no publish except what its first deed is
-pub first_publishes : (c : ℕ) (v w : List Link) (e : Link) → e.chain ≡ c → IsFirst v w e → publishes_in (chain_of c w) ≡ with_publish e.deed []
+pub first_publishes : (c : ℕ) (v w : List Link) (e : Link) → e.chain ≡ c → IsFirstOfChain v w e → publishes_in (chain_of c w) ≡ with_publish e.deed []
 first_publishes c v w e chain f =
     let none : chain_of c f.added.before ≡ [] = subst (λ (k : ℕ). chain_of k f.added.before ≡ []) chain f.none in
     let is : chain_of c w ≡ e ∷ [] = ap (chain_of c) f.added.log ∙ (own_snoc c f.added.before e chain ∙ ap (λ (l : List Link). l ++ e ∷ []) none) in

@@ -7,7 +7,7 @@ use lib.ListN.{replicate}
 use prog.Atomic.{either}
 use Rattle.logbook.specs.Pages.{Book, Named, Cell, cell, keeps, gives, adds, Nib, no_nib, may_write, step, Moves, Goes}
 use Rattle.annals.specs.declared.deed.Link.{Link}
-use Rattle.annals.specs.Chains.{asked_in, chain_of, next_of, with_asked, IsHome, AreHome, AreAsked, IsDue, Draws, Begins, Adds, Looks, IsAdded, IsFirst, word_of}
+use Rattle.annals.specs.Chains.{asked_in, chain_of, next_of, with_asked, IsHome, AreHome, AreAskedBefore, IsDue, Draws, Begins, Adds, Looks, IsEntryAdded, IsFirstOfChain, chain_word_of}
 use Rattle.annals.specs.Rule.{AreChained, shown_word}
 use Rattle.annals.specs.Shown.{shows}
 use Rattle.annals.specs.Banks.{memory_after, after_link, after_deed, zeros, entries_of, entries_in, with_entry}
@@ -61,15 +61,15 @@ still_home cs ds [] stays are = tt
 still_home cs ds (l ∷ []) stays are = tt
 still_home cs ds (l ∷ m ∷ ls) stays are = (stays l.next are.0, still_home cs ds (m ∷ ls) stays are.1)
 
-nothing_behind : (cs : List Cell) (v more : List Link) → 0 < length v → AreHome cs (v ++ more) → (cell cs (next_of v)).1 ≡ false → more ≡ []
-nothing_behind cs [] more some are away = absurd (omega (arith, some))
-nothing_behind cs (l ∷ []) [] some are away = refl
-nothing_behind cs (l ∷ []) (m ∷ ms) some are away = absurd (cc (are.0, away))
-nothing_behind cs (l ∷ k ∷ ls) more some are away = nothing_behind cs (k ∷ ls) more (omega arith) are.1 away
+nothing_after : (cs : List Cell) (v more : List Link) → 0 < length v → AreHome cs (v ++ more) → (cell cs (next_of v)).1 ≡ false → more ≡ []
+nothing_after cs [] more some are away = absurd (omega (arith, some))
+nothing_after cs (l ∷ []) [] some are away = refl
+nothing_after cs (l ∷ []) (m ∷ ms) some are away = absurd (cc (are.0, away))
+nothing_after cs (l ∷ k ∷ ls) more some are away = nothing_after cs (k ∷ ls) more (omega arith) are.1 away
 
 pub whole : (cs : List Cell) (v log : List Link) → 0 < length v → IsPrefix v log → AreHome cs log → (cell cs (next_of v)).1 ≡ false → v ≡ log
 whole cs v log some pre are away =
-    let none = nothing_behind cs v pre.0 some (subst (λ (l : List Link). AreHome cs l) (sym pre.1) are) away in
+    let none = nothing_after cs v pre.0 some (subst (λ (l : List Link). AreHome cs l) (sym pre.1) are) away in
     sym (append-nil v) ∙ (ap (λ (m : List Link). v ++ m) (sym none) ∙ pre.1)
 
 home_snoc : (cs : List Cell) (log : List Link) (e : Link) → AreHome cs log → (0 < length log → IsHome cs (next_of log)) → AreHome cs (log ++ e ∷ [])
@@ -132,7 +132,7 @@ draws_moves c v e few cs log kept pre away = (
 
 -- after a step that gives its pen's cell home, the entry that was added follows the one of its chain that names the
 -- cell
-adds_kept : (cs : List Cell) (log : List Link) (e : Link) (key value : ℕ) → key ≡ next_of (chain_of e.chain log) → key < length cs → (cell cs key).1 ≡ false → 0 < length (chain_of e.chain log) → AreAsked (log ++ e ∷ []) → shows e.deed ≡ 0 → AreChained cs log
+adds_kept : (cs : List Cell) (log : List Link) (e : Link) (key value : ℕ) → key ≡ next_of (chain_of e.chain log) → key < length cs → (cell cs key).1 ≡ false → 0 < length (chain_of e.chain log) → AreAskedBefore (log ++ e ∷ []) → shows e.deed ≡ 0 → AreChained cs log
     → AreChained (slice_set cs key (value, true)) (log ++ e ∷ [])
 adds_kept cs log e key value names few away some asked quiet kept =
     let ds = slice_set cs key (value, true) in
@@ -188,7 +188,7 @@ adds_moves c own v e p few begins some right key chain place due cs log kept pre
     let same : chain_of c own ≡ chain_of c log = whole cs (chain_of c own) (chain_of c log) some (chain_prefix c own log (prefix_trans own v log begins pre)) (kept.used c few) out in
     let ours : chain_of e.chain log ≡ chain_of c own = ap (λ (k : ℕ). chain_of k log) chain ∙ sym same in
     let here : chain_of e.chain v ≡ chain_of e.chain log = subst (λ (k : ℕ). chain_of k v ≡ chain_of k log) (sym chain) (between_same c own v log begins pre same) in
-    let asked : AreAsked (log ++ e ∷ []) = still_asked log v e.chain e.place e.next e.deed pre here due kept.asked in (
+    let asked : AreAskedBefore (log ++ e ∷ []) = still_asked log v e.chain e.place e.next e.deed pre here due kept.asked in (
       omega (arith, few, kept.row),
       kept.homes c few,
       (
@@ -292,44 +292,44 @@ woven_at_first = record {
 
 -- ---- what an added entry tells
 
-pub added_same : (c : ℕ) (own v w : List Link) (e : Link) → e.chain ≡ c → e.place ≡ length (chain_of c own) → IsPrefix own v → (a : IsAdded v w e) → chain_of c a.before ≡ chain_of c own
+pub added_same : (c : ℕ) (own v w : List Link) (e : Link) → e.chain ≡ c → e.place ≡ length (chain_of c own) → IsPrefix own v → (a : IsEntryAdded v w e) → chain_of c a.before ≡ chain_of c own
 added_same c own v w e chain place begins a =
     let pre = chain_prefix c own a.before (prefix_trans own v a.before begins a.seen) in
     let size : length (chain_of c a.before) ≡ length (chain_of c own) = ap (λ (k : ℕ). length (chain_of k a.before)) (sym chain) ∙ (a.place ∙ place) in
     sym (prefix_whole (chain_of c own) (chain_of c a.before) pre (omega (arith, size)))
 
-pub added_next : (c : ℕ) (v w : List Link) (e : Link) → e.chain ≡ c → IsAdded v w e → next_of (chain_of c w) ≡ e.next
+pub added_next : (c : ℕ) (v w : List Link) (e : Link) → e.chain ≡ c → IsEntryAdded v w e → next_of (chain_of c w) ≡ e.next
 added_next c v w e chain a =
     ap (λ (l : List Link). next_of (chain_of c l)) a.log ∙ (ap next_of (own_snoc c a.before e chain) ∙ next_snoc (chain_of c a.before) e)
 
-pub added_some : (c : ℕ) (v w : List Link) (e : Link) → e.chain ≡ c → IsAdded v w e → 0 < length (chain_of c w)
+pub added_some : (c : ℕ) (v w : List Link) (e : Link) → e.chain ≡ c → IsEntryAdded v w e → 0 < length (chain_of c w)
 added_some c v w e chain a =
     let is : chain_of c w ≡ chain_of c a.before ++ e ∷ [] = ap (chain_of c) a.log ∙ own_snoc c a.before e chain in
     omega (arith, ap length is, length-append (chain_of c a.before) (e ∷ []))
 
 -- the memory of a chain that begins is the first entry's word
-pub first_memory : (c : ℕ) (v w : List Link) (e : Link) → e.chain ≡ c → IsFirst v w e → memory_after c w ≡ after_deed (zeros (0, 0)) e.deed
+pub first_memory : (c : ℕ) (v w : List Link) (e : Link) → e.chain ≡ c → IsFirstOfChain v w e → memory_after c w ≡ after_deed (zeros (0, 0)) e.deed
 first_memory c v w e chain f =
     let none : chain_of c f.added.before ≡ [] = subst (λ (k : ℕ). chain_of k f.added.before ≡ []) chain f.none in
     let is : chain_of c w ≡ e ∷ [] = ap (chain_of c) f.added.log ∙ (own_snoc c f.added.before e chain ∙ ap (λ (l : List Link). l ++ e ∷ []) none) in
     ap (λ (l : List Link). fold after_link (zeros (0, 0)) l) is
 
 -- a chain that begins asks for nothing
-pub first_asked : (c : ℕ) (v w : List Link) (e : Link) → e.chain ≡ c → IsFirst v w e → asked_in (chain_of c w) ≡ with_asked e.deed []
+pub first_asked : (c : ℕ) (v w : List Link) (e : Link) → e.chain ≡ c → IsFirstOfChain v w e → asked_in (chain_of c w) ≡ with_asked e.deed []
 first_asked c v w e chain f =
     let none : chain_of c f.added.before ≡ [] = subst (λ (k : ℕ). chain_of k f.added.before ≡ []) chain f.none in
     let is : chain_of c w ≡ e ∷ [] = ap (chain_of c) f.added.log ∙ (own_snoc c f.added.before e chain ∙ ap (λ (l : List Link). l ++ e ∷ []) none) in
     ap asked_in is
 
 -- a chain that begins has no entry of a journal
-pub first_entries : (c : ℕ) (v w : List Link) (e : Link) → e.chain ≡ c → IsFirst v w e → entries_of c w ≡ with_entry e.deed []
+pub first_entries : (c : ℕ) (v w : List Link) (e : Link) → e.chain ≡ c → IsFirstOfChain v w e → entries_of c w ≡ with_entry e.deed []
 first_entries c v w e chain f =
     let none : chain_of c f.added.before ≡ [] = subst (λ (k : ℕ). chain_of k f.added.before ≡ []) chain f.none in
     let is : chain_of c w ≡ e ∷ [] = ap (chain_of c) f.added.log ∙ (own_snoc c f.added.before e chain ∙ ap (λ (l : List Link). l ++ e ∷ []) none) in
     ap entries_in is
 
 -- a word of that book that is tracked is the word of its key
-pub known_word : (w : Named) (home : Book) → w.tracked ≡ true → w.book ≡ home → w ≡ word_of home w.key
+pub known_word : (w : Named) (home : Book) → w.tracked ≡ true → w.book ≡ home → w ≡ chain_word_of home w.key
 known_word w home tracked book = λ i. record { tracked = tracked i; key = w.key; book = book i }
 
 -- whatever the book is, the exchange finds that the chain is what the pen's owner has of it
@@ -351,6 +351,6 @@ looks_moves c own v e p few begins some right key chain place cs log kept pre aw
         tt,
         rw (unchanged cs log c few kept, all) kept,
         inl (refl, ap shown all),
-        (ap (λ (l : List Link). length (chain_of e.chain l)) all ∙ (ap length ours ∙ sym place), refl, subst AreAsked (sym all) kept.asked),
+        (ap (λ (l : List Link). length (chain_of e.chain l)) all ∙ (ap length ours ∙ sym place), refl, subst AreAskedBefore (sym all) kept.asked),
       ),
     )

@@ -14,7 +14,7 @@ use Rattle.annals.specs.declared.deed.Act.TheVariants.{Leaves, Sets, Rotates, Pu
 use Rattle.annals.specs.declared.deed.Deed.{Deed}
 use Rattle.annals.specs.declared.deed.Deed.TheVariants.{Opens, Does, Asks, Shows}
 use Rattle.annals.specs.declared.deed.Link.{Link}
-use Rattle.annals.specs.Chains.{ChainValue, Due, LineValue, IsLast, at_bank, chain_of, with_left}
+use Rattle.annals.specs.Chains.{ChainValue, Due, LineValue, IsLastDeed, at_bank, chain_of, with_left}
 
 -- that many zero bytes from an address on
 abbrev pub zeros : ℕ × ℕ → Memory
@@ -69,10 +69,10 @@ answer_after bank log judged = answer (memory_after bank log) true (command_of j
 -- The command was done at the bank that is its place. It is the last of a history that goes on from what the port knew.
 -- Status and reply are the definition's on the replay of what was before it. There the port had as many entries as its
 -- share says, with the numbers from 0 on, each once.
-pub record IsDone (bank : ℕ) (known reached : List Link) (share : ShareValue) (judged : JudgedValue) (result : Applied)
+pub record IsDoneAtBank (bank : ℕ) (known reached : List Link) (share : ShareValue) (judged : JudgedValue) (result : Applied)
     (reply : List ℕ) : Type 0 where
   pub place : judged.place ≡ Bank bank
-  pub last : IsLast bank known reached (Does (Leaves (entry_of share judged result.status)))
+  pub last : IsLastDeed bank known reached (Does (Leaves (entry_of share judged result.status)))
   pub status : result.status ≡ (answer_after bank last.before judged).status
   pub numbers : numbers_of judged.port (entries_of bank last.before) ≡ range_with_len 0 share.number
   pub reply_is : reply ≡ (answer_after bank last.before judged).reply
@@ -121,8 +121,8 @@ abbrev pub IsReplayed : BankValue → ChainValue → Type 0
 IsReplayed bank chain = memory_of bank ≡ memory_after chain.number chain.log
 
 -- the entries of each port in the chain have the numbers from 0 up to the bank's count of it, each once and in order
-abbrev pub IsCounted : BankValue → ChainValue → Type 0
-IsCounted bank chain =
+abbrev pub IsBankCounted : BankValue → ChainValue → Type 0
+IsBankCounted bank chain =
     (port : ℕ) → port < length bank.counts → numbers_of port (entries_of chain.number chain.log)
     ≡ range_with_len 0 (slice_index bank.counts port)
 
@@ -135,9 +135,9 @@ pub record IsFresh (bank : BankValue) : Type 0 where
   pub fresh : bank ≡ fresh_bank first size journal ports
 
 -- the bank is what its chain says
-pub record IsKept (bank : BankValue) (chain : ChainValue) : Type 0 where
+pub record IsBankKept (bank : BankValue) (chain : ChainValue) : Type 0 where
   pub replayed : IsReplayed bank chain
-  pub counted : IsCounted bank chain
+  pub counted : IsBankCounted bank chain
 
 -- the place of the command is the bank of that number, and the command fits it
 abbrev pub takes : KeptValue → ShareValue → JudgedValue → Bool

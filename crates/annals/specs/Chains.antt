@@ -54,12 +54,12 @@ asked_in (l ∷ ls) = with_asked l.deed (asked_in ls)
 
 -- The chain that is a line. Those of eight banks and one for what is published come before, and the instrument's is the
 -- first.
-abbrev pub line_of : ℕ → ℕ
-line_of owner = if owner == instrument then 9 else 10 + owner
+abbrev pub line_chain_of : ℕ → ℕ
+line_chain_of owner = if owner == instrument then 9 else 10 + owner
 
 -- what was asked for in a line, in order
 abbrev pub asked_by : ℕ → List Link → List Due
-asked_by owner log = asked_in (chain_of (line_of owner) log)
+asked_by owner log = asked_in (chain_of (line_chain_of owner) log)
 
 -- the act of that line's owner that a deed of that chain did, if any, before those
 abbrev pub with_done : (owner chain : ℕ) → Deed → List Due → List Due
@@ -102,8 +102,8 @@ IsDue chain (Asks due) log = Unit {0}
 IsDue chain Shows log = ⊥
 
 -- each owner of a line asked for its acts before they were done, in that order, each once
-abbrev pub AreAsked : List Link → Type 0
-AreAsked log = (owner : ℕ) → IsPrefix (done_for owner log) (asked_by owner log)
+abbrev pub AreAskedBefore : List Link → Type 0
+AreAskedBefore log = (owner : ℕ) → IsPrefix (done_for owner log) (asked_by owner log)
 
 -- what begins a history has of each line's owner the acts that begin those which the history has of that owner
 abbrev pub ActsGrow : Type 0
@@ -127,8 +127,8 @@ AreHome cells (l ∷ []) = Unit {0}
 AreHome cells (l ∷ m ∷ ls) = IsHome cells l.next × AreHome cells (m ∷ ls)
 
 -- the word of a chain
-abbrev pub word_of : Book → ℕ → Named
-word_of b c = record { tracked = true; key = c; book = b }
+abbrev pub chain_word_of : Book → ℕ → Named
+chain_word_of b c = record { tracked = true; key = c; book = b }
 
 -- a chain: its number, and how far its owner has seen the history, which is all of it that is of the chain
 pub record ChainValue : Type 0 where
@@ -136,8 +136,8 @@ pub record ChainValue : Type 0 where
   pub log : List Link
 
 -- the word is the chain's, and the pen is of the cell that the last entry of the chain names
-pub record IsHeld (home : Book) (word : Named) (pens : Book) (nib : Nib) (seen : Book) (log : List Link) : Type 0 where
-  pub word_is : word ≡ word_of home word.key
+pub record IsChainHeld (home : Book) (word : Named) (pens : Book) (nib : Nib) (seen : Book) (log : List Link) : Type 0 where
+  pub word_is : word ≡ chain_word_of home word.key
   pub few : word.key < 42
   pub book : pens ≡ home
   pub seen_is : seen ≡ home
@@ -151,8 +151,8 @@ pub record LineValue : Type 0 where
   pub asked : List Due
 
 -- The chain is the line of that number. When that was reached, all that it asks for had been done.
-pub record IsLine (owner : ℕ) (chain : ChainValue) (reached : List Link) : Type 0 where
-  pub number : chain.number ≡ line_of owner
+pub record IsLineChain (owner : ℕ) (chain : ChainValue) (reached : List Link) : Type 0 where
+  pub number : chain.number ≡ line_chain_of owner
   pub left : IsPrefix (asked_by owner chain.log) (done_for owner reached)
 
 -- the line, and after what it asked for that act at that chain
@@ -160,14 +160,14 @@ abbrev pub line_with : LineValue → (chain : ℕ) → Act → LineValue
 line_with line chain act = record { port = line.port; asked = line.asked ++ (chain, act) ∷ [] }
 
 -- somebody has seen a beginning of a history of which the chain is whole, and what had been done was asked for
-pub record IsWhole (chain : ChainValue) (front : List Link) : Type 0 where
+pub record IsChainWhole (chain : ChainValue) (front : List Link) : Type 0 where
   pub log : List Link
   pub seen : IsPrefix front log
   pub whole : chain_of chain.number log ≡ chain_of chain.number chain.log
-  pub asked : AreAsked log
+  pub asked : AreAskedBefore log
 
 -- The deed is the last of a history that goes on from what was known. It is the next one of the chain of that number.
-pub record IsLast (bank : ℕ) (known reached : List Link) (deed : Deed) : Type 0 where
+pub record IsLastDeed (bank : ℕ) (known reached : List Link) (deed : Deed) : Type 0 where
   pub before : List Link
   pub next : ℕ
   pub log : reached ≡ before ++ link bank (length (chain_of bank before)) deed next ∷ []
@@ -179,31 +179,31 @@ Draws s v found w = w.1.0.right ≡ may_make
 
 -- The deed was added to a chain, all of which is before it. What had been done was asked for.
 pub record IsLastOf (chain : ChainValue) (known reached : List Link) (deed : Deed) : Type 0 where
-  pub last : IsLast chain.number known reached deed
+  pub last : IsLastDeed chain.number known reached deed
   pub whole : chain_of chain.number last.before ≡ chain_of chain.number chain.log
-  pub asked : AreAsked last.before
+  pub asked : AreAskedBefore last.before
 
 -- Before it is all that was seen, and that many entries of its chain. What had been done was asked for.
-pub record IsAdded (v w : List Link) (e : Link) : Type 0 where
+pub record IsEntryAdded (v w : List Link) (e : Link) : Type 0 where
   pub before : List Link
   pub log : w ≡ before ++ e ∷ []
   pub seen : IsPrefix v before
   pub place : length (chain_of e.chain before) ≡ e.place
-  pub asked : AreAsked before
+  pub asked : AreAskedBefore before
 
 -- the same, and its chain had none before it
-pub record IsFirst (v w : List Link) (e : Link) : Type 0 where
-  pub added : IsAdded v w e
+pub record IsFirstOfChain (v w : List Link) (e : Link) : Type 0 where
+  pub added : IsEntryAdded v w e
   pub none : chain_of e.chain added.before ≡ []
 
 -- the chain had no entry, and has this one, or it had one already
 abbrev pub Begins : Step Link → View Link ℕ → ℕ → View Link ℕ → Type 0
-Begins s v found w = MatchBool (found == s.old) (IsFirst v.0 w.0 s.ask) (Unit {0})
+Begins s v found w = MatchBool (found == s.old) (IsFirstOfChain v.0 w.0 s.ask) (Unit {0})
 
 -- the entry was added
 abbrev pub Adds : Step Link → View Link ℕ → ℕ → View Link ℕ → Type 0
-Adds s v found w = IsAdded v.0 w.0 s.ask
+Adds s v found w = IsEntryAdded v.0 w.0 s.ask
 
 -- The chain is as long as was asked, and the pen is as it was. What had been done was asked for.
 abbrev pub Looks : Step Link → View Link ℕ → ℕ → View Link ℕ → Type 0
-Looks s v found w = (length (chain_of s.ask.chain w.0) ≡ s.ask.place) × (w.1.0 ≡ v.1.0) × AreAsked w.0
+Looks s v found w = (length (chain_of s.ask.chain w.0) ≡ s.ask.place) × (w.1.0 ≡ v.1.0) × AreAskedBefore w.0

@@ -3,7 +3,7 @@ use Rattle.std.specs.Prelude.{ℕ, ◌≡◌, ◌<◌, ◌≤◌, ◌+◌, ◌==
 use Rattle.logbook.specs.Pages.{Cell, cell, Step, View}
 use Rattle.annals.specs.declared.deed.Deed.TheVariants.{Shows}
 use Rattle.annals.specs.declared.deed.Link.{Link}
-use Rattle.annals.specs.Chains.{AreAsked, AreHome, IsHome, chain_of, link}
+use Rattle.annals.specs.Chains.{AreAskedBefore, AreHome, IsHome, chain_of, link}
 use Rattle.annals.specs.Shown.{AreListed, shown_in}
 
 -- the key of the word that counts the programs which readers see: the one after the words of the chains
@@ -18,7 +18,7 @@ pub record AreChained (cells : List Cell) (log : List Link) : Type 0 where
   pub homes : (c : ℕ) → c < 42 → IsHome cells c
   pub begun : (c : ℕ) → c < 42 → (cell cells c).0 ≡ 0 → chain_of c log ≡ []
   pub used : (c : ℕ) → c < 42 → AreHome cells (chain_of c log)
-  pub asked : AreAsked log
+  pub asked : AreAskedBefore log
   pub home : IsHome cells shown_word
   pub shown : (cell cells shown_word).0 ≡ shown_in log
   pub listed : AreListed log

@@ -28,7 +28,7 @@ abbrev pub AreListed : List Link → Type 0
 AreListed log = (before : List Link) → IsPrefix before log → shown_in before ≤ length (publishes_of before)
 
 -- at some moment after what was known, and not after what was reached, readers saw exactly these programs
-pub record IsTakenAt (known reached : List Link) (programs : List Publish) : Type 0 where
+pub record IsTakenAtMoment (known reached : List Link) (programs : List Publish) : Type 0 where
   pub at : List Link
   pub after : IsPrefix known at
   pub before : IsPrefix at reached

@@ -4,12 +4,12 @@ ghost use Rattle.std.specs.Prelude.{◌≡◌, ◌<◌, ◌≤◌, ◌+◌, ◌�
 ghost use mathlib.Core.List.{IsPrefix};
 ghost use Rattle.logbook.specs.Pages.{may_write};
 ghost use Rattle.annals.specs.declared.deed.Link.{Link};
-ghost use Rattle.annals.specs.Chains.{word_of, chain_of, asked_in, IsDue, IsLastOf, IsWhole};
+ghost use Rattle.annals.specs.Chains.{chain_word_of, chain_of, asked_in, IsDue, IsLastOf, IsChainWhole};
 ghost use Rattle.annals.specs.Banks.{memory_after, zeros, entries_of};
 ghost use Rattle.annals.specs.Publishes.{publishes_in};
 
-use crate::deed::{Link, OpensBank, Tells};
-use crate::shown_count::ShownCount;
+use crate::deed::{Link, OpensBank, Announces};
+use crate::published_count::PublishedCount;
 use logbook::{Gain, Offer, Opening, Pen, Pens, Plain, Play, Rule, Seen, Start, Word};
 use std::marker::{Brand, Model, PhantomData};
 
@@ -55,10 +55,10 @@ impl Gain<Link, u64> for Nothing {
 
 /// What a step adds to a chain: a deed, and the pen that adds the next one.
 #[derive(Drop)]
-struct Adding<'a, D: Tells> {
+struct Adding<'a, D: Announces> {
     word: &'a Word<Link, u64, Chained>,
     seen: &'a Seen<Link, u64, Chained>,
-    told: &'a D,
+    reported: &'a D,
     fresh: &'a Pen,
 }
 
@@ -107,11 +107,11 @@ impl Play<Link, u64> for Look {
     ghost then = { Looks };
 }
 
-impl<'a, D: Tells> Plain<Adding<'a, D>, Link, u64> for Add {
+impl<'a, D: Announces> Plain<Adding<'a, D>, Link, u64> for Add {
     ghost use Rattle.std.specs.Prelude.{None, length};
     ghost use Rattle.annals.specs.Chains.{link, chain_of};
 
-    ghost ask = { λ x. link x.word.now.key (length (chain_of x.word.now.key x.seen.now.log)) (D.deed x.told.now) x.fresh.now.nib.key };
+    ghost ask = { λ x. link x.word.now.key (length (chain_of x.word.now.key x.seen.now.log)) (D.deed x.reported.now) x.fresh.now.nib.key };
 
     ghost state = { λ x. None };
 }
@@ -129,7 +129,7 @@ impl Family for Brand {
 
 /// A pen of a new cell.
 fn drawn(word: &Word<Link, u64, Chained>, seen: &Seen<Link, u64, Chained>) -> Pen
-    requires word { word.now ≡ word_of seen.now.book word.now.key }
+    requires word { word.now ≡ chain_word_of seen.now.book word.now.key }
     requires few { word.now.key < 42 }
     ensures book { result.book ≡ seen.now.book }
     ensures right { result.nib.right ≡ may_write }
@@ -145,12 +145,12 @@ fn drawn(word: &Word<Link, u64, Chained>, seen: &Seen<Link, u64, Chained>) -> Pe
 /// An empty history, which belongs to no node yet, and the rights to its chains. Contracts see it as its book, and as
 /// how many chains it has left.
 #[derive(Drop)]
-pub struct Opened {
+pub struct EmptyHistory {
     pens: Pens,
     seen: Seen<Link, u64, Chained>,
 }
 
-impl Model for Opened {
+impl Model for EmptyHistory {
     ghost use Rattle.std.specs.Prelude.{◌≡◌, ◌<◌, ◌+◌, ◌-◌, ℕ, []};
     ghost use Rattle.logbook.specs.Pages.{Book};
 
@@ -161,13 +161,13 @@ impl Model for Opened {
     ghost invariant = { λ o. (o.pens.book ≡ o.seen.book) × (o.pens.next + o.pens.left ≡ 43) × (0 < o.pens.left) × (o.seen.log ≡ []) };
 }
 
-impl Opened {
+impl EmptyHistory {
     /// Opens a history.
-    pub fn new() -> Opened
+    pub fn new() -> EmptyHistory
         ensures { result.1 ≡ 42 }
     {
         let (seen, pens) = Seen::open_row::<(), Empty>(&(), Start::alone(), 43);
-        Opened { pens, seen }
+        EmptyHistory { pens, seen }
     }
 
     /// What nobody has added to yet.
@@ -220,7 +220,7 @@ impl Opened {
         >(&Adding {
             word: &head,
             seen: &seen,
-            told: &opening,
+            reported: &opening,
             fresh: &fresh,
         });
         let mut none = seen.no_pen();
@@ -237,16 +237,16 @@ impl Opened {
     }
 }
 
-impl Opened {
+impl EmptyHistory {
     /// The word that counts the programs which readers see. The condition is a history of which all chains are taken or
     /// left out.
-    pub fn into_shown_count<J: Family>(self) -> ShownCount<J>
+    pub fn into_published_count<J: Family>(self) -> PublishedCount<J>
         requires family { self.0 ≡ J.book }
         requires none { self.1 ≡ 0 }
     {
-        let Opened { mut pens, seen: _ } = self;
+        let EmptyHistory { mut pens, seen: _ } = self;
         let mut pen = pens.take();
-        ShownCount {
+        PublishedCount {
             word: Word::tracked(0, &mut pen),
             of: PhantomData,
         }
@@ -264,13 +264,13 @@ pub struct Chain<J: Family> {
 }
 
 impl<J: Family> Model for Chain<J> {
-    ghost use Rattle.annals.specs.Chains.{ChainValue, IsHeld};
+    ghost use Rattle.annals.specs.Chains.{ChainValue, IsChainHeld};
 
     ghost Value = { ChainValue };
 
     ghost view = { λ h. record { number = h.word.key; log = h.seen.log } };
 
-    ghost invariant = { λ h. IsHeld J.book h.word h.pen.book h.pen.nib h.seen.book h.seen.log };
+    ghost invariant = { λ h. IsChainHeld J.book h.word h.pen.book h.pen.nib h.seen.book h.seen.log };
 }
 
 impl<J: Family> Chain<J> {
@@ -284,12 +284,12 @@ impl<J: Family> Chain<J> {
 
     /// Adds a deed, after all that somebody has seen, who then has seen it too. The conditions are one who has seen all
     /// that is known of the chain, and a deed that may be the next.
-    pub(crate) fn push<D: Tells>(&mut self, front: &mut Front<J>, told: &D)
+    pub(crate) fn push<D: Announces>(&mut self, front: &mut Front<J>, reported: &D)
         requires begins { IsPrefix self.old.log front.old }
-        requires due { IsDue self.old.number (D.deed told.now) front.old }
+        requires due { IsDue self.old.number (D.deed reported.now) front.old }
         ensures number { self.new.number ≡ self.old.number }
         ensures log { self.new.log ≡ front.new }
-        ensures added { IsLastOf self.old front.old front.new (D.deed told.now) }
+        ensures added { IsLastOf self.old front.old front.new (D.deed reported.now) }
     {
         let fresh = drawn(&self.word, &self.seen);
         let mut offer: Offer<Link, u64, Chained, Nothing> = front
@@ -297,7 +297,7 @@ impl<J: Family> Chain<J> {
             .plain::<Nothing, Adding<D>, Add>(&Adding {
                 word: &self.word,
                 seen: &self.seen,
-                told,
+                reported,
                 fresh: &fresh,
             });
         let _one = self
@@ -309,19 +309,19 @@ impl<J: Family> Chain<J> {
 
     /// Adds a deed, after all that is known of the chain and all that somebody has seen, who then has seen it too. The
     /// condition is a deed of no command.
-    pub(crate) fn add<D: Tells>(&mut self, front: &mut Front<J>, told: &D)
-        requires free { (log : List Link) → IsDue self.old.number (D.deed told.now) log }
+    pub(crate) fn add<D: Announces>(&mut self, front: &mut Front<J>, reported: &D)
+        requires free { (log : List Link) → IsDue self.old.number (D.deed reported.now) log }
         ensures number { self.new.number ≡ self.old.number }
         ensures log { self.new.log ≡ front.new }
-        ensures added { IsLastOf self.old front.old front.new (D.deed told.now) }
+        ensures added { IsLastOf self.old front.old front.new (D.deed reported.now) }
     {
         self.tell(front);
-        self.push(front, told);
+        self.push(front, reported);
     }
 
     /// What was seen is a beginning of a history of which the chain is whole.
     pub(crate) fn begins_with(&mut self, front: &Front<J>)
-        ensures whole { IsWhole self.old front.now }
+        ensures whole { IsChainWhole self.old front.now }
         ensures same { self.new ≡ self.old }
     {
         let opening = OpensBank((0, 0, 0));
@@ -330,7 +330,7 @@ impl<J: Family> Chain<J> {
             .plain::<Nothing, Adding<OpensBank>, Add>(&Adding {
                 word: &self.word,
                 seen: &self.seen,
-                told: &opening,
+                reported: &opening,
                 fresh: &self.pen,
             });
         let mut seen = self.seen.again();

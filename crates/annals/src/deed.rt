@@ -42,7 +42,7 @@ pub struct Link {
 }
 
 /// What reports a deed.
-pub(crate) trait Tells {
+pub(crate) trait Announces {
     ghost use Rattle.annals.specs.declared.deed.Deed.{Deed};
 
     /// The deed.
@@ -50,14 +50,14 @@ pub(crate) trait Tells {
 }
 
 /// What reports an act.
-pub(crate) trait TellsAct {
+pub(crate) trait AnnouncesAct {
     ghost use Rattle.annals.specs.declared.deed.Act.{Act};
 
     /// The act.
     ghost act: { Self → Act };
 }
 
-impl TellsAct for Entry {
+impl AnnouncesAct for Entry {
     ghost use Rattle.annals.specs.declared.deed.Act.TheVariants.{Leaves};
 
     ghost act = { λ entry. Leaves entry };
@@ -70,7 +70,7 @@ pub(crate) struct Setting<'a> {
     pub(crate) bytes: &'a [u8],
 }
 
-impl<'a> TellsAct for Setting<'a> {
+impl<'a> AnnouncesAct for Setting<'a> {
     ghost use Rattle.annals.specs.declared.deed.Act.TheVariants.{Sets};
 
     ghost act = { λ setting. Sets (setting.address, setting.bytes.now) };
@@ -82,7 +82,7 @@ pub(crate) struct Rotation {
     pub(crate) room: u32,
 }
 
-impl TellsAct for Rotation {
+impl AnnouncesAct for Rotation {
     ghost use Rattle.annals.specs.declared.deed.Act.TheVariants.{Rotates};
 
     ghost act = { λ rotation. Rotates rotation.room };
@@ -95,7 +95,7 @@ pub(crate) struct Publishing<'a> {
     pub(crate) publish: &'a (u8, Arc<Accepted>),
 }
 
-impl<'a> TellsAct for Publishing<'a> {
+impl<'a> AnnouncesAct for Publishing<'a> {
     ghost use Rattle.std.specs.Arc.{arc_value};
     ghost use Rattle.node_programs.specs.Histories.{entry};
     ghost use Rattle.annals.specs.declared.deed.Act.TheVariants.{Publishes};
@@ -105,11 +105,11 @@ impl<'a> TellsAct for Publishing<'a> {
 
 /// An act was done.
 #[derive(Drop)]
-pub(crate) struct Doing<'a, A: TellsAct> {
+pub(crate) struct Doing<'a, A: AnnouncesAct> {
     pub(crate) act: &'a A,
 }
 
-impl<'a, A: TellsAct> Tells for Doing<'a, A> {
+impl<'a, A: AnnouncesAct> Announces for Doing<'a, A> {
     ghost use Rattle.annals.specs.declared.deed.Deed.TheVariants.{Does};
 
     ghost deed = { λ doing. Does (A.act doing.act.now) };
@@ -117,12 +117,12 @@ impl<'a, A: TellsAct> Tells for Doing<'a, A> {
 
 /// A line asked for an act, at the chain of that number.
 #[derive(Drop)]
-pub(crate) struct Asking<'a, A: TellsAct> {
+pub(crate) struct Asking<'a, A: AnnouncesAct> {
     pub(crate) chain: u8,
     pub(crate) act: &'a A,
 }
 
-impl<'a, A: TellsAct> Tells for Asking<'a, A> {
+impl<'a, A: AnnouncesAct> Announces for Asking<'a, A> {
     ghost use Rattle.annals.specs.declared.deed.Deed.TheVariants.{Asks};
 
     ghost deed = { λ asking. Asks (asking.chain, A.act asking.act.now) };
@@ -132,7 +132,7 @@ impl<'a, A: TellsAct> Tells for Asking<'a, A> {
 #[derive(Drop)]
 pub(crate) struct OpensBank(pub(crate) (u32, u32, u32));
 
-impl Tells for OpensBank {
+impl Announces for OpensBank {
     ghost use Rattle.annals.specs.declared.deed.Deed.TheVariants.{Opens};
 
     ghost deed = { λ opening. Opens opening.0 };

@@ -4,11 +4,11 @@ ghost use Rattle.std.specs.Prelude.{◌≡◌, ◌<◌, ◌+◌, ℕ, [], IfSome
 ghost use Rattle.bank.specs.Records.{after_command, after_rotation, after_setting, answer_of, covers, entry_of, fits, is_place_of, memory_of, next_share, number_left};
 ghost use Rattle.annals.specs.declared.deed.Act.TheVariants.{Leaves, Rotates, Sets};
 ghost use Rattle.annals.specs.declared.deed.Deed.TheVariants.{Does};
-ghost use Rattle.annals.specs.Banks.{CountsOn, IsAppliedTo, IsDone, IsFresh, IsRefusedAt, takes};
-ghost use Rattle.annals.specs.Chains.{IsLast, chain_of, instrument, line_with};
+ghost use Rattle.annals.specs.Banks.{CountsOn, IsAppliedTo, IsDoneAtBank, IsFresh, IsRefusedAt, takes};
+ghost use Rattle.annals.specs.Chains.{IsLastDeed, chain_of, instrument, line_with};
 ghost use mathlib.Core.List.{IsPrefix};
 
-use crate::chains::{Chain, Family, Front, Opened};
+use crate::chains::{Chain, Family, Front, EmptyHistory};
 use crate::deed::{Rotation, Setting};
 use crate::line::Line;
 use bank::{Applied, Bank, Journal, Judged, Share};
@@ -27,20 +27,20 @@ pub struct Kept<J: Family> {
 
 impl<J: Family> Model for Kept<J> {
     ghost use Rattle.std.specs.Prelude.{◌≡◌};
-    ghost use Rattle.annals.specs.Banks.{KeptValue, IsKept};
+    ghost use Rattle.annals.specs.Banks.{KeptValue, IsBankKept};
 
     ghost Value = { KeptValue };
 
     ghost view = { λ k. record { bank = k.bank; chain = k.chain } };
 
-    ghost invariant = { λ k. (k.number ≡ k.chain.number) × IsKept k.bank k.chain };
+    ghost invariant = { λ k. (k.number ≡ k.chain.number) × IsBankKept k.bank k.chain };
 }
 
 impl<J: Family> Kept<J> {
     /// A bank to which no command was applied, with the next chain of a history, which begins with it. If the chain has
     /// an entry already, the call gives `None` (no test met that). The conditions are a bank as [`Bank::new`] makes it,
     /// and a chain that is left.
-    pub fn new(number: u8, bank: Bank, opened: &mut Opened) -> Option<Kept<J>>
+    pub fn new(number: u8, bank: Bank, opened: &mut EmptyHistory) -> Option<Kept<J>>
         requires family { opened.old.0 ≡ J.book }
         requires number { (number < 9) × (number + opened.old.1 ≡ 42) }
         requires bank { IsFresh bank }
@@ -86,7 +86,7 @@ impl<J: Family> Kept<J> {
         ensures number { result.number ≡ number_left self.old.bank share.old judged }
         ensures chain { self.new.chain.number ≡ self.old.chain.number }
         ensures done { IfSome result.number
-            (λ n. IsDone self.old.chain.number front.old front.new share.old judged result reply.new) }
+            (λ n. IsDoneAtBank self.old.chain.number front.old front.new share.old judged result reply.new) }
         ensures full { IfNone result.number (front.new ≡ front.old) }
         ensures asked { IfSome result.number (λ n. line.new
             ≡ line_with line.old self.old.chain.number (Leaves (entry_of share.old judged result.status))) }
@@ -129,7 +129,7 @@ impl<J: Family> Kept<J> {
     ) -> Applied
         requires { line.old.port ≡ share.old.port }
         ensures done { IfSome result.number
-            (λ n. IsDone self.old.chain.number front.old front.new share.old judged result reply.new) }
+            (λ n. IsDoneAtBank self.old.chain.number front.old front.new share.old judged result reply.new) }
         ensures none { IfNone result.number (front.new ≡ front.old) }
         ensures asked { IfSome result.number (λ n. line.new
             ≡ line_with line.old self.old.chain.number (Leaves (entry_of share.old judged result.status))) }
@@ -164,10 +164,10 @@ impl<J: Family> Kept<J> {
         ensures bank { self.new.bank ≡ after_rotation self.old.bank fresh }
         ensures journal { result ≡ self.old.bank.journal }
         ensures number { self.new.chain.number ≡ self.old.chain.number }
-        ensures last { IsLast self.old.chain.number front.old front.new (Does (Rotates fresh.room)) }
+        ensures last { IsLastDeed self.old.chain.number front.old front.new (Does (Rotates fresh.room)) }
         ensures asked { line.new ≡ line_with line.old self.old.chain.number (Rotates fresh.room) }
     {
-        let room = fresh.room_left();
+        let room = fresh.journal_room_left();
         let journal = self.bank.rotate(fresh);
         line.leave(front, &mut self.chain, self.number, &Rotation { room });
         journal
@@ -190,7 +190,7 @@ impl<J: Family> Kept<J> {
         ensures bank { self.new.bank ≡ after_setting self.old.bank address bytes.now fresh }
         ensures journal { result ≡ self.old.bank.journal }
         ensures number { self.new.chain.number ≡ self.old.chain.number }
-        ensures last { IsLast self.old.chain.number front.old front.new
+        ensures last { IsLastDeed self.old.chain.number front.old front.new
             (Does (Sets (address, bytes.now))) }
         ensures asked { line.new
             ≡ line_with line.old self.old.chain.number (Sets (address, bytes.now)) }

@@ -18,13 +18,13 @@ mod kept;
 mod laws;
 mod line;
 mod publishes;
-mod shown_count;
+mod published_count;
 
 pub use beginning::Beginning;
-pub use chains::{Chain, Family, Front, Opened};
+pub use chains::{Chain, Family, Front, EmptyHistory};
 pub use deed::{Act, Deed, Link};
 pub use kept::Kept;
 pub use laws::{acts_grow, loads_are_apart, publishes_grow, share_one_history};
 pub use line::Line;
 pub use publishes::BANK_CHAINS;
-pub use shown_count::ShownCount;
+pub use published_count::PublishedCount;

@@ -5,10 +5,10 @@ ghost use mathlib.Core.List.{IsPrefix};
 ghost use Rattle.annals.specs.declared.deed.Deed.TheVariants.{Does};
 ghost use Rattle.bank.specs.Records.{numbers_of};
 ghost use Rattle.annals.specs.Banks.{entries_of, numbers_at};
-ghost use Rattle.annals.specs.Chains.{IsLastOf, done_for, instrument, line_of, line_with, owner_of};
+ghost use Rattle.annals.specs.Chains.{IsLastOf, done_for, instrument, line_chain_of, line_with, owner_of};
 
-use crate::chains::{Chain, Family, Front, Opened};
-use crate::deed::{Asking, Doing, TellsAct};
+use crate::chains::{Chain, Family, Front, EmptyHistory};
+use crate::deed::{Asking, Doing, AnnouncesAct};
 use std::marker::Model;
 
 /// The number of the instrument's line. Those of ports are below it.
@@ -26,20 +26,20 @@ pub struct Line<J: Family> {
 }
 
 impl<J: Family> Model for Line<J> {
-    ghost use Rattle.annals.specs.Chains.{LineValue, IsLine, asked_by};
+    ghost use Rattle.annals.specs.Chains.{LineValue, IsLineChain, asked_by};
 
     ghost Value = { LineValue };
 
     ghost view = { λ l. record { port = l.port; asked = asked_by l.port l.chain.log } };
 
-    ghost invariant = { λ l. IsLine l.port l.chain l.left };
+    ghost invariant = { λ l. IsLineChain l.port l.chain l.left };
 }
 
 impl<J: Family> Line<J> {
     /// The line of that number, which asked for nothing, as the next chain of a history.
-    fn begin(port: u8, opened: &mut Opened) -> Option<Line<J>>
+    fn begin(port: u8, opened: &mut EmptyHistory) -> Option<Line<J>>
         requires family { opened.old.0 ≡ J.book }
-        requires number { line_of port + opened.old.1 ≡ 42 }
+        requires number { line_chain_of port + opened.old.1 ≡ 42 }
         requires some { 0 < opened.old.1 }
         ensures family { opened.new.0 ≡ opened.old.0 }
         ensures left { opened.new.1 + 1 ≡ opened.old.1 }
@@ -52,7 +52,7 @@ impl<J: Family> Line<J> {
 
     /// The line of a port that asked for nothing, as the next chain of a history. If the chain has an entry already,
     /// the call gives `None` (no test met that). The conditions are a chain that is left, and that of the port.
-    pub fn new(port: u8, opened: &mut Opened) -> Option<Line<J>>
+    pub fn new(port: u8, opened: &mut EmptyHistory) -> Option<Line<J>>
         requires family { opened.old.0 ≡ J.book }
         requires number { (port < 32) × (port + opened.old.1 ≡ 32) }
         ensures family { opened.new.0 ≡ opened.old.0 }
@@ -65,7 +65,7 @@ impl<J: Family> Line<J> {
     /// The line of the instrument, in which nothing was asked for, as the next chain of a history. If the chain has an
     /// entry already, the call gives `None` (no test met that). The condition is a history of which only the chains of
     /// banks and of publishes are taken or left out, and all of these are.
-    pub fn of_instrument(opened: &mut Opened) -> Option<Line<J>>
+    pub fn of_instrument(opened: &mut EmptyHistory) -> Option<Line<J>>
         requires family { opened.old.0 ≡ J.book }
         requires number { opened.old.1 ≡ 33 }
         ensures family { opened.new.0 ≡ opened.old.0 }
@@ -85,7 +85,7 @@ impl<J: Family> Line<J> {
     /// Does an act at the chain of that number: the line asks for it, and the chain has it. The act is after all that
     /// is known of the chain and all that somebody has seen, who then has seen it too. The conditions are that chain,
     /// and an act of the line's owner.
-    pub(crate) fn leave<A: TellsAct>(
+    pub(crate) fn leave<A: AnnouncesAct>(
         &mut self,
         front: &mut Front<J>,
         chain: &mut Chain<J>,
@@ -109,7 +109,7 @@ impl<J: Family> Line<J> {
     /// Somebody learns enough of the history that all which the line asked for is in it, done.
     pub fn tell(&self, front: &mut Front<J>)
         ensures known { IsPrefix front.old front.new }
-        ensures told { IsPrefix self.now.asked (done_for self.now.port front.new) }
+        ensures reported { IsPrefix self.now.asked (done_for self.now.port front.new) }
     {
         front.learn(&self.left);
     }

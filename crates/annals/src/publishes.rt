@@ -6,11 +6,11 @@ ghost use mathlib.Core.List.{IsPrefix};
 ghost use Rattle.node_programs.specs.Histories.{entry, longer_history};
 ghost use Rattle.annals.specs.declared.deed.Act.TheVariants.{Publishes};
 ghost use Rattle.annals.specs.declared.deed.Deed.TheVariants.{Does};
-ghost use Rattle.annals.specs.Chains.{IsLast};
+ghost use Rattle.annals.specs.Chains.{IsLastDeed};
 ghost use Rattle.annals.specs.Publishes.{line_loading, publishes_chain, publishes_of};
 
 use crate::beginning::Beginning;
-use crate::chains::{Chain, Family, Front, Opened};
+use crate::chains::{Chain, Family, Front, EmptyHistory};
 use crate::deed::Publishing;
 use crate::line::Line;
 use bver::Accepted;
@@ -19,7 +19,7 @@ use std::sync::Arc;
 /// How many chains of a history come before that of the publishes: those of banks ([`MAX_BANKS`](rmap::MAX_BANKS)).
 pub const BANK_CHAINS: u8 = 8;
 
-impl Opened {
+impl EmptyHistory {
     /// The chain of the publishes, in which nothing was published yet. If it has begun already, the call gives `None`
     /// (no test met that). The condition is a history of which the chains of banks are taken or left out.
     pub fn publishes<J: Family>(&mut self) -> Option<Chain<J>>
@@ -41,7 +41,7 @@ impl<J: Family> Chain<J> {
     pub fn publish(&mut self, line: &mut Line<J>, publish: &(u8, Arc<Accepted>))
         requires { self.old.number ≡ publishes_chain }
         ensures number { self.new.number ≡ self.old.number }
-        ensures last { IsLast publishes_chain self.old.log self.new.log
+        ensures last { IsLastDeed publishes_chain self.old.log self.new.log
             (Does (Publishes (line.old.port, entry publish.now.0 (arc_value publish.now.1)))) }
         ensures published { publishes_of self.new.log
             ≡ longer_history (publishes_of self.old.log) publish.now.0 (arc_value publish.now.1) }

@@ -15,7 +15,7 @@ use Rattle.rmap.specs.declared.kind.Kind.{Kind}
 use Rattle.rmap.specs.declared.kind.Kind.TheVariants.{Read, Write, Rmw, Unused}
 use Rattle.rmap.specs.Command.{CommandValue, address_of, length_of, command_kind, increments}
 use Rattle.rmap.specs.Checks.{data_of}
-use Rattle.bank.specs.Effect.{Memory, IsWithin, byte_at, byte_after_data, bytes_read, address_of_byte, modified_byte, modified_bytes, effect_of, effect}
+use Rattle.bank.specs.Effect.{Memory, IsDataWithin, byte_at, byte_after_data, bytes_read, address_of_byte, modified_byte, modified_bytes, command_effect_of, effect}
 use Rattle.bank.specs.Laws.{IsPartOf}
 use Rattle.rmap.specs.Windows.{lies_inside}
 use Rattle.bank.specs.Admission.{IsAdmissible}
@@ -106,13 +106,13 @@ page_is_part first ps k are below = record {
 }
 
 -- a command does not change the first address and the number of bytes
-first_stays : (kind : Kind) (m : Memory) (c : CommandValue) → (effect_of kind m c).memory.first ≡ m.first
+first_stays : (kind : Kind) (m : Memory) (c : CommandValue) → (command_effect_of kind m c).memory.first ≡ m.first
 first_stays Read m c = refl
 first_stays Write m c = refl
 first_stays Rmw m c = refl
 first_stays Unused m c = refl
 
-size_stays : (kind : Kind) (m : Memory) (c : CommandValue) → length (effect_of kind m c).memory.bytes ≡ length m.bytes
+size_stays : (kind : Kind) (m : Memory) (c : CommandValue) → length (command_effect_of kind m c).memory.bytes ≡ length m.bytes
 size_stays Read m c = refl
 size_stays Write m c = length-map-range_with_len _ 0 (length m.bytes)
 size_stays Rmw m c = length-map-range_with_len _ 0 (length m.bytes)
@@ -180,7 +180,7 @@ stays true m c bytes x next few (inr past) = after_above m c bytes x next (omega
 stays false m c bytes x again few (inl below) = after_other m c bytes x again (λ e. omega arith)
 stays false m c bytes x again few (inr past) = after_other m c bytes x again (λ e. omega (arith, past.0))
 
-unchanged : (kind : Kind) (m : Memory) (c : CommandValue) → ((x : ℕ) → m.first ≤ x → x < m.first + length m.bytes → IsApart c x) → m.bytes ≡ (effect_of kind m c).memory.bytes
+unchanged : (kind : Kind) (m : Memory) (c : CommandValue) → ((x : ℕ) → m.first ≤ x → x < m.first + length m.bytes → IsApart c x) → m.bytes ≡ (command_effect_of kind m c).memory.bytes
 unchanged Read m c apart = refl
 unchanged Write m c apart =
     unwritten m c (data_of c) (λ k inside. stays (increments c) m c (data_of c) (m.first + k) refl (omega (arith, length-take (length_of c) c.body)) (apart (m.first + k) (omega arith) (omega arith)))
@@ -283,11 +283,11 @@ in_page first ps c address is are inside admitted =
     record { start = start; begins = record { place = omega arith; small = small; short = short }; below = there.below }
 
 -- what is read from a part is what is read from the whole
-in_part : (next : Bool) (part : Memory) (c : CommandValue) (n i : ℕ) → increments c ≡ next → IsWithin part.first (length part.bytes) c n → i < n → (part.first ≤ address_of_byte c i) × (address_of_byte c i < part.first + length part.bytes)
+in_part : (next : Bool) (part : Memory) (c : CommandValue) (n i : ℕ) → increments c ≡ next → IsDataWithin part.first (length part.bytes) c n → i < n → (part.first ≤ address_of_byte c i) × (address_of_byte c i < part.first + length part.bytes)
 in_part true part c n i next within below = rw next (omega (arith, within.above), omega (arith, within.all next))
 in_part false part c n i again within below = rw again (within.above, within.below)
 
-pub read_in_part : (m part : Memory) (c : CommandValue) (n : ℕ) → IsPartOf m part → IsWithin part.first (length part.bytes) c n → bytes_read part c n ≡ bytes_read m c n
+pub read_in_part : (m part : Memory) (c : CommandValue) (n : ℕ) → IsPartOf m part → IsDataWithin part.first (length part.bytes) c n → bytes_read part c n ≡ bytes_read m c n
 read_in_part m part c n of within =
     fill_by_all (λ i. byte_at m (address_of_byte c i)) (bytes_read part c n) n 0 (length-map-range_with_len _ 0 n) (λ i below.
     let place = in_part (increments c) part c n i refl within below in
@@ -362,7 +362,7 @@ found ps n are below =
     is_at ps (n / 4096) (n % 4096) are (mod-lt n (omega arith)) (omega arith)
 
 -- the bytes from a command's address are enough for it
-pub is_within_slice : (c : CommandValue) (address size count : ℕ) (next : Bool) → address ≡ address_of c → 0 < size → next ≡ increments c → (next ≡ false) ⊎ ((next ≡ true) × (count ≤ size)) → IsWithin address size c count
+pub is_within_slice : (c : CommandValue) (address size count : ℕ) (next : Bool) → address ≡ address_of c → 0 < size → next ≡ increments c → (next ≡ false) ⊎ ((next ≡ true) × (count ≤ size)) → IsDataWithin address size c count
 is_within_slice c address size count next is some same enough = record {
   above = omega arith;
   below = omega arith;

@@ -63,9 +63,9 @@ overlaid_more old bytes offset i room below =
     let next : offset + i + 1 ≡ offset + (i + 1) = omega arith in
     let none : offset + i - (offset + i) ≡ 0 = omega arith in
     let rest : List ℕ = drop (offset + (i + 1)) old in
-    let behind : drop (offset + length (take i bytes)) old ≡ get_or old (offset + i) 0 ∷ rest =
+    let following : drop (offset + length (take i bytes)) old ≡ get_or old (offset + i) 0 ∷ rest =
     ap (λ (n : ℕ). drop (offset + n) old) few ∙ drop_more old (offset + i) 0 room ∙ ap (λ (n : ℕ). get_or old (offset + i) 0 ∷ drop n old) next in
-    ap (λ (l : List ℕ). set (some ++ l) (offset + i) byte) behind
+    ap (λ (l : List ℕ). set (some ++ l) (offset + i) byte) following
     ∙ set-append_right some (get_or old (offset + i) 0 ∷ rest) (offset + i) (offset + i) byte front (omega arith)
     ∙ ap (λ (n : ℕ). some ++ set (get_or old (offset + i) 0 ∷ rest) n byte) none
     ∙ sym (ap (λ (n : ℕ). take offset old ++ take (i + 1) bytes ++ drop (offset + n) old) more

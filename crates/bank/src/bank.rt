@@ -9,7 +9,7 @@ ghost use Rattle.rmap.specs.Windows.{lies_inside};
 ghost use Rattle.bank.specs.Answer.{status_of};
 ghost use Rattle.bank.specs.Effect.{memory_at, with_bytes};
 ghost use Rattle.bank.specs.Limits.{is_bank_size, is_range, is_bank};
-ghost use Rattle.bank.specs.Records.{first_share, fresh_bank, byte_in, fits, is_next, has_room, IsBank, IsExecutable, memory_of, memory_from, reply_from, base_of, replay, answer_of, after_command, after_rotation, after_setting, covers, empty_journal, number_left, next_share, room_left};
+ghost use Rattle.bank.specs.Records.{first_share, fresh_bank, byte_in, fits, is_next, has_room, IsBank, IsExecutable, memory_of, memory_from, reply_from, base_of, replay, answer_of, after_command, after_rotation, after_setting, covers, empty_journal, number_left, next_share, journal_room_left};
 
 use crate::answers::reply_to;
 use crate::entry::Entry;
@@ -157,10 +157,10 @@ impl Bank {
     }
 
     /// How many more entries the journal has room for.
-    pub fn room_left(&self) -> u32
-        ensures { result ≡ room_left self.now.journal }
+    pub fn journal_room_left(&self) -> u32
+        ensures { result ≡ journal_room_left self.now.journal }
     {
-        self.journal.room_left()
+        self.journal.journal_room_left()
     }
 
     /// The address of the first byte, and how many bytes the bank has. Memory is the replay of the

@@ -4,7 +4,7 @@ ghost use Rattle.std.specs.Prelude.{◌≡◌, ◌≤◌, ◌<◌, ◌+◌, leng
 ghost use Rattle.rmap.specs.Command.{increments};
 ghost use Rattle.rmap.specs.Checks.{body_line};
 ghost use Rattle.bank.specs.Admission.{IsAdmissible};
-ghost use Rattle.bank.specs.Effect.{IsWithin, memory_at, effect, byte_at, after_write, modified_bytes};
+ghost use Rattle.bank.specs.Effect.{IsDataWithin, memory_at, effect, byte_at, after_write, modified_bytes};
 ghost use Rattle.bank.specs.Answer.{read_reply};
 
 use rmap::{Command, Kind, MAX_DATA, ReplyBuf, Status, put_reply};
@@ -22,7 +22,7 @@ pub(crate) fn reply_read(
     count: usize,
 )
     requires few { count ≤ MAX_DATA }
-    requires within { IsWithin first (length memory.now) command.now count }
+    requires within { IsDataWithin first (length memory.now) command.now count }
     ensures { reply.new ≡ read_reply (memory_at first memory.now) command.now count }
 {
     let offset = (command.address() - first) as usize;

@@ -6,7 +6,7 @@ ghost use Rattle.std.specs.Vec.{vec_items};
 ghost use Rattle.rmap.specs.Windows.{lies_inside};
 ghost use Rattle.rmap.specs.Checks.{body_line};
 ghost use Rattle.bank.specs.Admission.{IsAdmissible};
-ghost use Rattle.bank.specs.Effect.{IsWithin, memory_at, effect, overlaid};
+ghost use Rattle.bank.specs.Effect.{IsDataWithin, memory_at, effect, overlaid};
 ghost use Rattle.bank.specs.Answer.{executed_reply, read_reply};
 ghost use Rattle.bank.specs.Pages.{ArePages, after_page};
 

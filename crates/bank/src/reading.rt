@@ -14,7 +14,7 @@ use rmap::{Command, Kind, MAX_DATA, ReplyBuf, Status, put_reply};
 /// Bytes of memory from which replies read: those of a bank, in pages, and those that are lent.
 pub(crate) trait Bytes {
     ghost use Rattle.std.specs.Prelude.{◌≡◌, ◌≤◌, List, ℕ, length};
-    ghost use Rattle.bank.specs.Effect.{IsWithin, memory_at};
+    ghost use Rattle.bank.specs.Effect.{IsDataWithin, memory_at};
     ghost use Rattle.bank.specs.Answer.{read_reply};
 
     /// The bytes.
@@ -24,7 +24,7 @@ pub(crate) trait Bytes {
     /// from the command's address, else the one there `count` times.
     fn reply_read(&self, first: u32, command: &Command, count: usize, reply: &mut ReplyBuf)
         requires few { count ≤ MAX_DATA }
-        requires within { IsWithin first (length (bytes self.now)) command.now count }
+        requires within { IsDataWithin first (length (bytes self.now)) command.now count }
         ensures { reply.new ≡ read_reply (memory_at first (bytes self.now)) command.now count };
 }
 

@@ -9,8 +9,8 @@ use Rattle.basm_lex.specs.Lines.{IsLabel, operands_of, word_of}
 use Rattle.basm_lex.specs.Names.{is_name}
 use Rattle.basm_lex.specs.Numbers.{WritesNumber}
 use Rattle.basm_lex.specs.declared.mnemonics.Mnemonic.{Mnemonic}
-use Rattle.basm.specs.declared.draft.Draft.{Draft}
-use Rattle.basm.specs.Draft.{AddsItem, WritesLoop}
+use Rattle.basm.specs.declared.partial_image.PartialImage.{PartialImage}
+use Rattle.basm.specs.PartialImage.{AddsItem, WritesLoop}
 use Rattle.basm.specs.Labels.{label_of}
 use Rattle.basm_lex.specs.Mnemonics.{mnemonic_word}
 use Rattle.bpf.specs.declared.version.Version.{Version}
@@ -31,7 +31,7 @@ not_plain line word plain same none = true≢false (sym plain ∙ ap is_name sam
 
 -- ---- no word
 
-pub empty_adds : (names : List ℕ → Option ℕ) (slot : ℕ) (line : List ℕ) (parts : Draft) (item : Item) → ((found : Mnemonic) → word_of line ≢ mnemonic_word found) → word_of line ≡ [] → IsLine names slot line item → AddsItem item parts parts
+pub empty_adds : (names : List ℕ → Option ℕ) (slot : ℕ) (line : List ℕ) (parts : PartialImage) (item : Item) → ((found : Mnemonic) → word_of line ≢ mnemonic_word found) → word_of line ≡ [] → IsLine names slot line item → AddsItem item parts parts
 empty_adds names slot line parts Nothing unknown same says = adds_nothing parts
 empty_adds names slot line parts (Label name) unknown same says = adds_label name parts
 empty_adds names slot line parts (OneVersion version) unknown same says = absurd (not_nil _ _ (sym says.0 ∙ same))

@@ -41,15 +41,15 @@ module _ (text bytes : List ℕ) (end : ℕ) (same : bytes ≡ text) (found : Fe
 
   -- a text is its first line, and the lines after its line feed
   pub line_cut : (line rest : List ℕ) → line ≡ slice_range text 0 end → rest ≡ drop (end + 1) text → pieces_of text ≡ line ∷ pieces_of rest
-  line_cut line rest front behind =
+  line_cut line rest front following =
       let next : suc end ≡ end + 1 = omega arith in
       let whole : end - 0 ≡ end = omega arith in
       let parts : text ≡ take end text ++ get_or text end 0 ∷ drop (end + 1) text = split_at text end 0 feeds.0.high ∙ ap (λ n. take end text ++ get_or text end 0 ∷ drop n text) next in
       let cut = slice_split_at (λ c. c == 10) (take end text) (get_or text end 0) (drop (end + 1) text) (free_of_feeds text end feeds.0.before) feeds.1 in
-      ap pieces_of parts ∙ cut ∙ ap (λ l. l ∷ pieces_of (drop (end + 1) text)) (sym (front ∙ ap (λ n. take n text) whole)) ∙ ap (λ r. line ∷ pieces_of r) (sym behind)
+      ap pieces_of parts ∙ cut ∙ ap (λ l. l ∷ pieces_of (drop (end + 1) text)) (sym (front ∙ ap (λ n. take n text) whole)) ∙ ap (λ r. line ∷ pieces_of r) (sym following)
 
   -- the text can be cut after it
-  pub behind_feed : IsUtf8 text → IsCharBoundary text (end + 1)
-  behind_feed utf8 =
+  pub after_feed : IsUtf8 text → IsCharBoundary text (end + 1)
+  after_feed utf8 =
       let is = eqb-true (get_or text end 0) 10 feeds.1 in
       IsCharBoundary-after_ascii text end utf8 feeds.0.high (omega (arith, is))

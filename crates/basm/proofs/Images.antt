@@ -14,10 +14,10 @@ use Rattle.bpf.specs.declared.loops.Loop.{Loop}
 use Rattle.bpf.specs.declared.version.Version.{Version}
 use Rattle.bpf.specs.Parts.{parts_fault, parts_reading, placed_slots, unless}
 use Rattle.bpf.specs.Program.{AreLoops, IsBudget, IsLoop, IsProgram, IsSlotCount, Program, program}
-use Rattle.bpf.specs.Reading.{Fails, are_loops, is_budget, is_count, is_loop}
+use Rattle.bpf.specs.Reading.{FailsReading, are_loops, is_budget, is_count, is_loop}
 use Rattle.basm.specs.declared.faults.AsmFault.{AsmFault}
-use Rattle.basm.specs.declared.draft.Draft.{Draft}
-use Rattle.basm.specs.Draft.{IsImageOf}
+use Rattle.basm.specs.declared.partial_image.PartialImage.{PartialImage}
+use Rattle.basm.specs.PartialImage.{IsImageOf}
 use Rattle.basm.specs.Outcomes.{Makes, image_code, text_fault}
 use Rattle.basm.specs.Relation.{IsVersionOf}
 use Rattle.basm.proofs.Loops.{sorted_loops}
@@ -77,7 +77,7 @@ program_made p insns is code =
     ap (λ (f : Option ImageFault). unless f (program p.version p.budget p.loops slots)) fault ∙ ap (λ (q : Program). Ok q) (is_made p slots code)
 
 -- if parts have an image, nothing is wrong with them after their loops are sorted
-pub image_reading : (parts : Draft) (sorted : List Loop) (version : Version) (budget : ℕ) (p : Program) → IsVersionOf (option_to_list parts.version) version → parts.budget ≡ Some budget → IsPermutation parts.loops.items sorted → IsNonDecreasingBy (λ l. l.head) sorted → IsImageOf parts p
+pub image_reading : (parts : PartialImage) (sorted : List Loop) (version : Version) (budget : ℕ) (p : Program) → IsVersionOf (option_to_list parts.version) version → parts.budget ≡ Some budget → IsPermutation parts.loops.items sorted → IsNonDecreasingBy (λ l. l.head) sorted → IsImageOf parts p
     → parts_reading version parts.insns.items sorted budget ≡ Ok p
 image_reading parts sorted version budget p says declared moved heads image =
     let loops = sorted_loops (length p.slots) parts.loops.items sorted p.loops moved heads image.loops image.program.loops in
@@ -88,7 +88,7 @@ image_reading parts sorted version budget p says declared moved heads image =
     ∙ ap (λ (v : Version). parts_reading v parts.insns.items p.loops p.budget) same_one
     ∙ program_made p parts.insns.items image.program image.code
 
-only_memory : (fault : ImageFault) (p : Program) → Fails fault (Ok p) → fault ≡ faults.Memory
+only_memory : (fault : ImageFault) (p : Program) → FailsReading fault (Ok p) → fault ≡ faults.Memory
 only_memory faults.Memory p fails = refl
 only_memory faults.Magic p fails = cc
 only_memory faults.Version p fails = cc
@@ -99,8 +99,8 @@ only_memory faults.Loop p fails = cc
 only_memory (faults.Insn slot fault) p fails = cc
 
 -- and then only memory can be refused
-pub refused : (r : Result Program AsmFault) (fault : ImageFault) (p : Program) (read : Result Program ImageFault) → read ≡ Ok p → Fails fault read → IsErrAnd r (λ given. given ≡ text_fault (image_code fault)) → Makes p r
+pub refused : (r : Result Program AsmFault) (fault : ImageFault) (p : Program) (read : Result Program ImageFault) → read ≡ Ok p → FailsReading fault read → IsErrAnd r (λ given. given ≡ text_fault (image_code fault)) → Makes p r
 refused (Ok image) fault p read same fails gives = absurd gives
 refused (Err given) fault p read same fails gives =
-    let P : Result Program ImageFault → Type 0 = Fails fault in
+    let P : Result Program ImageFault → Type 0 = FailsReading fault in
     gives ∙ ap (λ (f : ImageFault). text_fault (image_code f)) (only_memory fault p (subst P same fails))

@@ -9,10 +9,10 @@ use Rattle.bpf_insn.specs.declared.insn.Insn.{Insn}
 use Rattle.bpf.specs.declared.loops.Loop.{Loop}
 use Rattle.bpf.specs.Parts.{placed_slots, second_slots}
 use Rattle.bpf_insn.specs.Spelling.{second_immediate, slots_in as immediate_slots, slots_of}
-use Rattle.basm_lex.specs.Lines.{IsLabel, code_of, without_trailing_spaces, is_semicolon, is_space, operands_of, rest_of, without_leading_spaces, trimmed_text, trailing_part, word_of}
-use Rattle.basm.specs.declared.draft.Draft.{Draft}
-use Rattle.basm.specs.Draft.{AddsItem, AddsLine, ArePartsOf, SayParts, WritesLoop, slots_of_items}
-use Rattle.basm.specs.Relation.{Item, Nothing, Label, OneVersion, Budget, OneLoop, Code, AreLines, Four, IsLine, WritesInsn, budget_in, insn_in, loop_in, slots_in, version_in}
+use Rattle.basm_lex.specs.Lines.{IsLabel, code_of, without_trailing_spaces, is_semicolon, is_space, operands_of, rest_of_line, without_leading_spaces, trimmed_text, trailing_part, word_of}
+use Rattle.basm.specs.declared.partial_image.PartialImage.{PartialImage}
+use Rattle.basm.specs.PartialImage.{AddsItem, AddsLine, ArePartsOf, SayParts, WritesLoop, slots_of_items}
+use Rattle.basm.specs.Relation.{Item, Nothing, Label, OneVersion, Budget, OneLoop, Code, AreLines, Four, IsLine, WritesInsn, budget_in, insn_in, loop_in_line, line_slots_in, version_in}
 
 pub not_nil : {X : Type 0} (c : X) (cs : List X) → c ∷ cs ≡ [] → ⊥
 not_nil c cs same = cc
@@ -53,17 +53,17 @@ no_word (c ∷ cs) none =
 
 -- a line without a word has no operands
 no_operands : (line : List ℕ) → word_of line ≡ [] → operands_of line ≡ []
-unfolding word_of rest_of code_of
+unfolding word_of rest_of_line code_of
 no_operands line none = rw (no_word (before_first is_semicolon line) none) refl
 
 -- an item that declares nothing
-pub adds_nothing : (parts : Draft) → AddsItem Nothing parts parts
+pub adds_nothing : (parts : PartialImage) → AddsItem Nothing parts parts
 adds_nothing parts = record { version = sym (append-nil _); budget = sym (append-nil _); loops = sym (append-nil _); insns = sym (append-nil _); slots = omega arith }
 
-pub adds_label : (name : List ℕ) (parts : Draft) → AddsItem (Label name) parts parts
+pub adds_label : (name : List ℕ) (parts : PartialImage) → AddsItem (Label name) parts parts
 adds_label name parts = record { version = sym (append-nil _); budget = sym (append-nil _); loops = sym (append-nil _); insns = sym (append-nil _); slots = omega arith }
 
-pub line_nothing : (names : List ℕ → Option ℕ) (line : List ℕ) (parts : Draft) → word_of line ≡ [] → AddsLine names line parts parts
+pub line_nothing : (names : List ℕ → Option ℕ) (line : List ℕ) (parts : PartialImage) → word_of line ≡ [] → AddsLine names line parts parts
 line_nothing names line parts word = record {
   item = Nothing;
   says = (word, no_operands line word);
@@ -71,7 +71,7 @@ line_nothing names line parts word = record {
   few = λ h. h;
 }
 
-pub line_label : (names : List ℕ → Option ℕ) (line : List ℕ) (parts : Draft) (name : List ℕ)
+pub line_label : (names : List ℕ → Option ℕ) (line : List ℕ) (parts : PartialImage) (name : List ℕ)
     → IsLabel line name → AddsLine names line parts parts
 line_label names line parts name label = record {
   item = Label name;
@@ -80,7 +80,7 @@ line_label names line parts name label = record {
   few = λ h. h;
 }
 
-pub line_loop : (xs : List (List ℕ)) (names : List ℕ → Option ℕ) (line : List ℕ) (old new : Draft) (l : Loop)
+pub line_loop : (xs : List (List ℕ)) (names : List ℕ → Option ℕ) (line : List ℕ) (old new : PartialImage) (l : Loop)
     → word_of line ≡ codes ".loop" → xs ≡ operands_of line → WritesLoop names xs l
     → AddsItem (OneLoop l) old new → AddsLine names line old new
 line_loop xs names line old new l word operands four adds =
@@ -92,7 +92,7 @@ line_loop xs names line old new l word operands four adds =
       few = λ h. let same = adds.slots in omega arith;
     }
 
-pub line_insn : (xs : List (List ℕ)) (names : List ℕ → Option ℕ) (line word : List ℕ) (old new : Draft) (insn : Insn)
+pub line_insn : (xs : List (List ℕ)) (names : List ℕ → Option ℕ) (line word : List ℕ) (old new : PartialImage) (insn : Insn)
     → word_of line ≡ word → xs ≡ operands_of line → WritesInsn names old.slots word xs insn
     → AddsItem (Code insn) old new → new.slots ≤ 512 → AddsLine names line old new
 line_insn xs names line word old new insn same operands writes adds few =
@@ -114,9 +114,9 @@ lines_push names slot [] (i ∷ items) line item says last = absurd says
 lines_push names slot (l ∷ lines) [] line item says last = absurd says
 lines_push names slot (l ∷ lines) (i ∷ items) line item says last =
     let P : ℕ → Type 0 = λ s. IsLine names s line item in
-    (says.0, lines_push names (slot + slots_in i) lines items line item says.1 (subst P (omega arith) last))
+    (says.0, lines_push names (slot + line_slots_in i) lines items line item says.1 (subst P (omega arith) last))
 
-slots_push : (items : List Item) (item : Item) → slots_of_items (items ++ item ∷ []) ≡ slots_of_items items + slots_in item
+slots_push : (items : List Item) (item : Item) → slots_of_items (items ++ item ∷ []) ≡ slots_of_items items + line_slots_in item
 slots_push [] item = omega arith
 slots_push (i ∷ items) item = omega (arith, slots_push items item)
 
@@ -124,16 +124,16 @@ flat_push : {A : Type 0} (f : Item → List A) (items : List Item) (item : Item)
 flat_push f [] item = sym (append-nil (f item))
 flat_push f (i ∷ items) item = append_assoc (f i) (flat_map f items) (f item) ∙ ap (λ rest. f i ++ rest) (flat_push f items item)
 
-pub parts_push : (items : List Item) (item : Item) (old new : Draft) → ArePartsOf items old → AddsItem item old new → ArePartsOf (items ++ item ∷ []) new
+pub parts_push : (items : List Item) (item : Item) (old new : PartialImage) → ArePartsOf items old → AddsItem item old new → ArePartsOf (items ++ item ∷ []) new
 parts_push items item old new are adds = record {
   version = adds.version ∙ rw are.version (flat_push version_in items item);
   budget = adds.budget ∙ rw are.budget (flat_push budget_in items item);
-  loops = adds.loops ∙ rw are.loops (flat_push loop_in items item);
+  loops = adds.loops ∙ rw are.loops (flat_push loop_in_line items item);
   insns = adds.insns ∙ rw are.insns (flat_push insn_in items item);
   slots = adds.slots ∙ rw are.slots (sym (slots_push items item));
 }
 
-pub say_push : (names : List ℕ → Option ℕ) (lines : List (List ℕ)) (line : List ℕ) (old new : Draft)
+pub say_push : (names : List ℕ → Option ℕ) (lines : List (List ℕ)) (line : List ℕ) (old new : PartialImage)
     → SayParts names lines old → AddsLine names line old new → SayParts names (lines ++ line ∷ []) new
 say_push names lines line old new say adds =
     let P : ℕ → Type 0 = λ slot. IsLine names slot line adds.item in

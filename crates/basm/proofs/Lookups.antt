@@ -12,7 +12,7 @@ use Rattle.std.proofs.lemmas.Option.{none-some, same_Some}
 use Rattle.std.proofs.lemmas.Slice.Eq.{bytes_eq-Decides}
 use Rattle.std.proofs.lemmas.Map.Text.{btree_map_updates_str, is_eq-slice_cmp}
 use Rattle.basm.specs.Names.{slot_named}
-use Rattle.basm.specs.Relation.{AreApart, Defines, IsFree}
+use Rattle.basm.specs.Relation.{AreDistinctNames, Defines, IsFree}
 
 pub lookup_map : {K L X : Type 0} (view : K → L) (test : L → Bool) (entries : List (K × X))
     → lookup test (map (λ entry. (view entry.0, entry.1)) entries) ≡ lookup (λ key. test (view key)) entries
@@ -103,19 +103,19 @@ free_parts : (pairs : List (List ℕ × ℕ)) (pair : List ℕ × ℕ) (name : L
 free_parts [] pair name free = (tt, free.0)
 free_parts (p ∷ pairs) pair name free = let rest = free_parts pairs pair name free.1 in ((free.0, rest.0), rest.1)
 
-apart_push : (pairs : List (List ℕ × ℕ)) (pair : List ℕ × ℕ) → AreApart pairs → IsFree pairs pair.0 → AreApart (pairs ++ pair ∷ [])
+apart_push : (pairs : List (List ℕ × ℕ)) (pair : List ℕ × ℕ) → AreDistinctNames pairs → IsFree pairs pair.0 → AreDistinctNames (pairs ++ pair ∷ [])
 apart_push [] pair apart free = (tt, tt)
 apart_push (p ∷ pairs) pair apart free =
     (free_push pairs pair p.0 apart.0 (λ same. free.0 (sym same)), apart_push pairs pair apart.1 free.1)
 
-apart_parts : (pairs : List (List ℕ × ℕ)) (pair : List ℕ × ℕ) → AreApart (pairs ++ pair ∷ []) → AreApart pairs × IsFree pairs pair.0
+apart_parts : (pairs : List (List ℕ × ℕ)) (pair : List ℕ × ℕ) → AreDistinctNames (pairs ++ pair ∷ []) → AreDistinctNames pairs × IsFree pairs pair.0
 apart_parts [] pair apart = (tt, tt)
 apart_parts (p ∷ pairs) pair apart =
     let front = free_parts pairs pair p.0 apart.0 in let rest = apart_parts pairs pair apart.1 in
     ((front.0, rest.0), (λ same. front.1 (sym same), rest.1))
 
 -- one more name leaves them apart if none of them is it
-pub apart_more : (pairs : List (List ℕ × ℕ)) (name : List ℕ) (slot : ℕ) → AreApart (pairs ++ (name, slot) ∷ []) ↔ (AreApart pairs × (slot_named pairs name ≡ None))
+pub apart_more : (pairs : List (List ℕ × ℕ)) (name : List ℕ) (slot : ℕ) → AreDistinctNames (pairs ++ (name, slot) ∷ []) ↔ (AreDistinctNames pairs × (slot_named pairs name ≡ None))
 apart_more pairs name slot = (
   λ apart. let parts = apart_parts pairs (name, slot) apart in (parts.0, none_from_free pairs name parts.1),
   λ h. apart_push pairs (name, slot) h.0 (free_from_none pairs name h.1),
@@ -133,7 +133,7 @@ defines_from (pair ∷ pairs) name slot found = elim (cases_bytes pair.0 name) [
   | inr apart ↦ inr (defines_from pairs name slot (sym (past_pair pair pairs name apart) ∙ found))
 ]
 
-found_from : (pairs : List (List ℕ × ℕ)) (name : List ℕ) (slot : ℕ) → AreApart pairs → Defines pairs name slot → slot_named pairs name ≡ Some slot
+found_from : (pairs : List (List ℕ × ℕ)) (name : List ℕ) (slot : ℕ) → AreDistinctNames pairs → Defines pairs name slot → slot_named pairs name ≡ Some slot
 found_from [] name slot apart defines = absurd defines
 found_from (pair ∷ pairs) name slot apart (inl here) = at_pair pair pairs name here.0 ∙ ap Some here.1
 found_from (pair ∷ pairs) name slot apart (inr there) =
@@ -141,7 +141,7 @@ found_from (pair ∷ pairs) name slot apart (inr there) =
     ∙ found_from pairs name slot apart.1 there
 
 -- names that are apart have the slots that they are defined with
-pub slot_named-Defines : (pairs : List (List ℕ × ℕ)) → AreApart pairs → (name : List ℕ) (slot : ℕ) → (slot_named pairs name ≡ Some slot) ↔ Defines pairs name slot
+pub slot_named-Defines : (pairs : List (List ℕ × ℕ)) → AreDistinctNames pairs → (name : List ℕ) (slot : ℕ) → (slot_named pairs name ≡ Some slot) ↔ Defines pairs name slot
 slot_named-Defines pairs apart name slot = (defines_from pairs name slot, found_from pairs name slot apart)
 
 -- ---- names that lie in a map

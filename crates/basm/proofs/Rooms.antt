@@ -14,11 +14,11 @@ use Rattle.bpf.specs.declared.loops.Loop.{Loop}
 use Rattle.bpf.specs.Parts.{placed_slots}
 use Rattle.bpf.specs.Program.{AreLoops, IsLoop, IsProgram, Program}
 use Rattle.bpf.specs.declared.version.Version.{Version}
-use Rattle.basm.specs.declared.draft.Draft.{Draft}
+use Rattle.basm.specs.declared.partial_image.PartialImage.{PartialImage}
 use Rattle.basm.specs.declared.survey.Survey.{Survey}
 use Rattle.basm.specs.Names.{slot_named}
-use Rattle.basm.specs.Draft.{AddsItem, ArePartsOf, HasRoom, IsImageOf, SurveysText, has_head, slots_of_items}
-use Rattle.basm.specs.Relation.{AreLines, Budget, Code, IsLine, IsText, IsVersionOf, Item, Label, Nothing, OneLoop, OneVersion, budget_in, loop_in, slots_in, version_in}
+use Rattle.basm.specs.PartialImage.{AddsItem, ArePartsOf, HasRoom, IsImageOf, SurveysText, has_head, slots_of_items}
+use Rattle.basm.specs.Relation.{AreLines, Budget, Code, IsLine, IsText, IsVersionOf, Item, Label, Nothing, OneLoop, OneVersion, budget_in, loop_in_line, line_slots_in, version_in}
 use Rattle.basm.proofs.Items.{not_nil, parts_push, slots_are}
 
 -- ---- how many loops have a head
@@ -85,8 +85,8 @@ all_loops slots least (l ∷ ls) are = All-cons (IsLoop slots) l ls are.1 (all_l
 
 -- ---- room after the items before
 
-room_for : (before after : List Item) (item : Item) (p : Program) (parts : Draft)
-    → IsVersionOf (flat_map version_in (before ++ item ∷ after)) p.version → flat_map budget_in (before ++ item ∷ after) ≡ p.budget ∷ [] → IsPermutation (flat_map loop_in (before ++ item ∷ after)) p.loops
+room_for : (before after : List Item) (item : Item) (p : Program) (parts : PartialImage)
+    → IsVersionOf (flat_map version_in (before ++ item ∷ after)) p.version → flat_map budget_in (before ++ item ∷ after) ≡ p.budget ∷ [] → IsPermutation (flat_map loop_in_line (before ++ item ∷ after)) p.loops
     → slots_of_items (before ++ item ∷ after) ≡ length p.slots → IsProgram p → ArePartsOf before parts → HasRoom (length p.slots) item parts
 room_for before after Nothing p parts version budget loops slots is are = tt
 room_for before after (Label name) p parts version budget loops slots is are = tt
@@ -99,8 +99,8 @@ room_for before after (Budget n) p parts version budget loops slots is are =
     let P : ℕ → Type 0 = λ n. (1 ≤ n) × (n ≤ 65536) in
     (subst P (sym cut.1) is.budget, none_from_list parts.budget (are.budget ∙ cut.0))
 room_for before after (OneLoop l) p parts version budget loops slots is are =
-    let front = flat_map loop_in before in let rest = flat_map loop_in after in
-    let cut : flat_map loop_in (before ++ OneLoop l ∷ after) ≡ front ++ l ∷ rest = flat_map-append loop_in before (OneLoop l ∷ after) in
+    let front = flat_map loop_in_line before in let rest = flat_map loop_in_line after in
+    let cut : flat_map loop_in_line (before ++ OneLoop l ∷ after) ≡ front ++ l ∷ rest = flat_map-append loop_in_line before (OneLoop l ∷ after) in
     let P : List Loop → Type 0 = λ ls. IsPermutation ls p.loops in
     let moved : IsPermutation (front ++ l ∷ rest) p.loops = subst P cut loops in
     let count : heads l.head p.loops ≡ heads l.head (front ++ l ∷ rest) = sum_by-IsPermutation (λ m. one_if (m.head == l.head)) (front ++ l ∷ rest) p.loops moved in
@@ -109,13 +109,13 @@ room_for before after (OneLoop l) p parts version budget loops slots is are =
     let few = is.slots in let few_loops = is.few_loops in
     let Q : List Loop → Type 0 = λ ls. (has_head l.head ls ≡ false) × (length ls < 8) in
     let room : (has_head l.head front ≡ false) × (length front < 8) = (headless l.head front none, omega (arith, length_permutation (front ++ l ∷ rest) p.loops moved, length-append front (l ∷ rest))) in
-    let behind = subst Q (sym are.loops) room in (
+    let following = subst Q (sym are.loops) room in (
       All-contains (IsLoop (length p.slots)) (front ++ l ∷ rest) l
           (All-permutation (IsLoop (length p.slots)) p.loops (front ++ l ∷ rest) (IsPermutation-sym (front ++ l ∷ rest) p.loops moved) (all_loops (length p.slots) 0 p.loops is.loops))
           (Contains-append_right front (l ∷ rest) l (0, omega arith, refl)),
       omega arith,
-      behind.0,
-      behind.1,
+      following.0,
+      following.1,
     )
 room_for before after (Code insn) p parts version budget loops slots is are =
     let here = are.slots in let few = is.slots in omega (arith, slots_append before (Code insn ∷ after))
@@ -124,11 +124,11 @@ room_for before after (Code insn) p parts version budget loops slots is are =
 cut_at : (items : List Item) (n : ℕ) → n < length items → items ≡ take n items ++ get_or items n Nothing ∷ drop (n + 1) items
 cut_at items n low = sym (take-append-drop n items) ∙ ap (λ (rest : List Item). take n items ++ rest) (drop_more items n Nothing low)
 
-pub room_at : {text : List ℕ} {p : Program} (t : IsText text p) (n : ℕ) (parts : Draft) → n < length t.items → ArePartsOf (take n t.items) parts
+pub room_at : {text : List ℕ} {p : Program} (t : IsText text p) (n : ℕ) (parts : PartialImage) → n < length t.items → ArePartsOf (take n t.items) parts
     → HasRoom (length p.slots) (get_or t.items n Nothing) parts
 room_at {p} t n parts low are =
     let cut = cut_at t.items n low in
-    let P : List Item → Type 0 = λ items. IsPermutation (flat_map loop_in items) p.loops in
+    let P : List Item → Type 0 = λ items. IsPermutation (flat_map loop_in_line items) p.loops in
     let R : List Item → Type 0 = λ items. IsVersionOf (flat_map version_in items) p.version in
     let slots : slots_of_items t.items ≡ length p.slots = sym (ap length t.code ∙ slots_are t.items) in
     room_for (take n t.items) (drop (n + 1) t.items) (get_or t.items n Nothing) p parts
@@ -145,17 +145,17 @@ line_at names slot (l ∷ lines) (item ∷ items) zero line says low same =
     let Q : ℕ → Type 0 = λ k. IsLine names k line item in
     (subst Q (omega arith) (subst P (sym same) says.0), omega arith)
 line_at names slot (l ∷ lines) (item ∷ items) (suc n) line says low same =
-    let rest = line_at names (slot + slots_in item) lines items n line says.1 (omega arith) same in
+    let rest = line_at names (slot + line_slots_in item) lines items n line says.1 (omega arith) same in
     let Q : ℕ → Type 0 = λ k. IsLine names k line (get_or items n Nothing) in
     (subst Q (omega arith) rest.0, let far = rest.1 in omega arith)
 
 -- the line of this turn says the text's next item, which has room
-pub record IsTurn {text : List ℕ} {p : Program} (t : IsText text p) (survey : Survey) (parts : Draft) (n : ℕ) (line : List ℕ) : Type 0 where
+pub record IsTurn {text : List ℕ} {p : Program} (t : IsText text p) (survey : Survey) (parts : PartialImage) (n : ℕ) (line : List ℕ) : Type 0 where
   pub low : n < length t.items
   pub says : IsLine (slot_named survey.names) parts.slots line (get_or t.items n Nothing)
   pub room : HasRoom survey.slots (get_or t.items n Nothing) parts
 
-pub turn_at : {text : List ℕ} {p : Program} (t : IsText text p) (survey : Survey) (parts : Draft) (n : ℕ) (line : List ℕ) → SurveysText t survey → ArePartsOf (take n t.items) parts
+pub turn_at : {text : List ℕ} {p : Program} (t : IsText text p) (survey : Survey) (parts : PartialImage) (n : ℕ) (line : List ℕ) → SurveysText t survey → ArePartsOf (take n t.items) parts
     → n < length (slice_split (λ c. c == 10) text) → line ≡ get_or (slice_split (λ c. c == 10) text) n line → IsTurn t survey parts n line
 turn_at {text} {p} t survey parts n line surveys are low same =
     let item = get_or t.items n Nothing in
@@ -170,7 +170,7 @@ turn_at {text} {p} t survey parts n line surveys are low same =
       room = subst R (sym surveys.slots) (room_at t n parts found.1 are);
     }
 
-pub turn_adds : {text : List ℕ} {p : Program} (t : IsText text p) (survey : Survey) (old new : Draft) (n : ℕ) (line : List ℕ) → IsTurn t survey old n line → ArePartsOf (take n t.items) old
+pub turn_adds : {text : List ℕ} {p : Program} (t : IsText text p) (survey : Survey) (old new : PartialImage) (n : ℕ) (line : List ℕ) → IsTurn t survey old n line → ArePartsOf (take n t.items) old
     → AddsItem (get_or t.items n Nothing) old new → ArePartsOf (take (n + 1) t.items) new
 turn_adds t survey old new n line turn are adds =
     let low = turn.low in
@@ -181,7 +181,7 @@ pub all_lines : (names : List ℕ → Option ℕ) (slot : ℕ) (lines : List (Li
 all_lines names slot [] [] says = refl
 all_lines names slot [] (item ∷ items) says = absurd says
 all_lines names slot (line ∷ lines) [] says = absurd says
-all_lines names slot (line ∷ lines) (item ∷ items) says = omega (arith, all_lines names (slot + slots_in item) lines items says.1)
+all_lines names slot (line ∷ lines) (item ∷ items) says = omega (arith, all_lines names (slot + line_slots_in item) lines items says.1)
 
 -- ---- the whole
 
@@ -189,7 +189,7 @@ some_from_list : {X : Type 0} (o : Option X) (x : X) → option_to_list o ≡ x 
 some_from_list None x same = absurd (not_nil x [] (sym same))
 some_from_list (Some y) x same = cc
 
-pub image_of : {text : List ℕ} {p : Program} (t : IsText text p) (parts : Draft) → ArePartsOf t.items parts → IsImageOf parts p
+pub image_of : {text : List ℕ} {p : Program} (t : IsText text p) (parts : PartialImage) → ArePartsOf t.items parts → IsImageOf parts p
 image_of {p} t parts are =
     let P : List Loop → Type 0 = λ ls. IsPermutation ls p.loops in
     let Q : List Version → Type 0 = λ declared. IsVersionOf declared p.version in

@@ -10,13 +10,13 @@ use Rattle.bpf.specs.declared.loops.Loop.{Loop}
 use Rattle.bpf.specs.Parts.{placed_slots}
 use Rattle.bpf.specs.Program.{Program}
 use Rattle.basm_lex.specs.Lines.{word_of}
-use Rattle.basm.specs.declared.draft.Draft.{Draft}
+use Rattle.basm.specs.declared.partial_image.PartialImage.{PartialImage}
 use Rattle.basm.specs.declared.survey.Survey.{Survey}
-use Rattle.basm.specs.Draft.{IsImageOf, SayParts, SurveysText, slots_of_items}
+use Rattle.basm.specs.PartialImage.{IsImageOf, SayParts, SurveysText, slots_of_items}
 use Rattle.basm.specs.Labels.{IsSurvey, lone_label, declares_budget, label_in, label_of, named_slot, labels_from, slot_after, slots_from, slots_beside, word_slots}
 use Rattle.basm.specs.Names.{slot_named}
 use Rattle.bpf.specs.declared.version.Version.{Version}
-use Rattle.basm.specs.Relation.{budget_in, AreApart, Defines, AreLines, Budget, Code, IsLine, IsText, IsVersionOf, Item, Label, Nothing, OneLoop, OneVersion, name_of, names_from, slots_in}
+use Rattle.basm.specs.Relation.{budget_in, AreDistinctNames, Defines, AreLines, Budget, Code, IsLine, IsText, IsVersionOf, Item, Label, Nothing, OneLoop, OneVersion, name_of, names_from, line_slots_in}
 use Rattle.basm.proofs.Items.{not_nil, slots_are}
 use Rattle.basm.proofs.Lookups.{slot_named-Defines}
 use Rattle.basm.proofs.Surveys.{label_named}
@@ -49,14 +49,14 @@ other_word : (slot slots : ℕ) (word : List ℕ) → Takes slots word → SaysW
 other_word slot slots word takes = rw takes.no_label (refl, takes.slots_are)
 
 -- a right line's first word says what its item says
-line_says : AreNamed → (names : List ℕ → Option ℕ) (slot : ℕ) (line : List ℕ) (item : Item) → IsLine names slot line item → SaysWord slot (name_of slot item) (slots_in item) (word_of line)
+line_says : AreNamed → (names : List ℕ → Option ℕ) (slot : ℕ) (line : List ℕ) (item : Item) → IsLine names slot line item → SaysWord slot (name_of slot item) (line_slots_in item) (word_of line)
 line_says named names slot line Nothing says = let P : List ℕ → Type 0 = SaysWord slot [] 0 in subst P (sym says.0) (no_word slot)
 line_says named names slot line (Label name) says = label_word slot (word_of line) name (label_named (word_of line) name says.0 says.1)
 line_says named names slot line (OneVersion version) says = let P : List ℕ → Type 0 = SaysWord slot [] 0 in subst P (sym says.0) (version_word slot)
 line_says named names slot line (Budget n) says = let P : List ℕ → Type 0 = SaysWord slot [] 0 in subst P (sym says.0) (budget_word slot)
 line_says named names slot line (OneLoop l) says = let P : List ℕ → Type 0 = SaysWord slot [] 0 in subst P (sym says.0) (loop_word slot)
 line_says named names slot line (Code insn) says =
-    let P : List ℕ → Type 0 = SaysWord slot [] (slots_in (Code insn)) in subst P (sym says.name) (other_word slot (slots_in (Code insn)) _ (insn_takes named insn))
+    let P : List ℕ → Type 0 = SaysWord slot [] (line_slots_in (Code insn)) in subst P (sym says.name) (other_word slot (line_slots_in (Code insn)) _ (insn_takes named insn))
 
 -- whether something comes after the word matters only for a label
 unless_none : (operands : List (List ℕ)) (o : Option (List ℕ)) → o ≡ None → lone_label operands o ≡ o
@@ -86,21 +86,21 @@ labels_are named names slot [] (item ∷ items) says few = absurd says
 labels_are named names slot (line ∷ lines) [] says few = absurd says
 labels_are named names slot (line ∷ lines) (item ∷ items) says few =
     let same = label_same named names slot line item says.0 in
-    let P : Option (List ℕ) → Type 0 = λ o. (named_slot o slot ≡ name_of slot item) × (slots_beside o (word_of line) ≡ slots_in item) in
+    let P : Option (List ℕ) → Type 0 = λ o. (named_slot o slot ≡ name_of slot item) × (slots_beside o (word_of line) ≡ line_slots_in item) in
     let one = subst P (sym same) (line_says named names slot line item says.0) in
     let slots = one.1 in
-    let next : slot_after slot line ≡ slot + slots_in item = omega arith in
-    let rest = labels_are named names (slot + slots_in item) lines items says.1 (omega arith) in
+    let next : slot_after slot line ≡ slot + line_slots_in item = omega arith in
+    let rest = labels_are named names (slot + line_slots_in item) lines items says.1 (omega arith) in
     (rw (one.0, next) (ap (λ (pairs : List (List ℕ × ℕ)). name_of slot item ++ pairs) rest.0), rw next (rest.1 ∙ omega arith))
 
-pub text_is : AreNamed → (text : List ℕ) (survey : Survey) (parts : Draft) (p : Program) → IsSurvey (slice_split (λ c. c == 10) text) survey → survey.repeated ≡ None
+pub text_is : AreNamed → (text : List ℕ) (survey : Survey) (parts : PartialImage) (p : Program) → IsSurvey (slice_split (λ c. c == 10) text) survey → survey.repeated ≡ None
     → SayParts (slot_named survey.names) (slice_split (λ c. c == 10) text) parts → IsImageOf parts p → IsText text p
 text_is named text survey parts p is unrepeated say image =
     let lines = slice_split (λ c. c == 10) text in
     let few : 0 + slots_of_items say.items ≤ 512 = let same = say.parts_of.slots in let low = say.few in omega arith in
     let labels = (labels_are named (slot_named survey.names) 0 lines say.items say.says few).0 in
-    let P : List (List ℕ × ℕ) → Type 0 = AreApart in
-    let apart : AreApart (names_from 0 say.items) = subst P labels (is.apart.0 unrepeated) in
+    let P : List (List ℕ × ℕ) → Type 0 = AreDistinctNames in
+    let apart : AreDistinctNames (names_from 0 say.items) = subst P labels (is.apart.0 unrepeated) in
     let Q : List Loop → Type 0 = λ ls. IsPermutation ls p.loops in
     let R : List Version → Type 0 = λ declared. IsVersionOf declared p.version in
     record {
@@ -140,7 +140,7 @@ declared names slot (line ∷ lines) (Label name ∷ items) n ns says budget = o
 declared names slot (line ∷ lines) (OneVersion version ∷ items) n ns says budget = or_right (declares_budget line) _ (declared names (slot + 0) lines items n ns says.1 budget)
 declared names slot (line ∷ lines) (Budget m ∷ items) n ns says budget = or_left (declares_budget line) _ ((bytes_eq-Decides (word_of line) (codes ".budget")).1 says.0.0)
 declared names slot (line ∷ lines) (OneLoop l ∷ items) n ns says budget = or_right (declares_budget line) _ (declared names (slot + 0) lines items n ns says.1 budget)
-declared names slot (line ∷ lines) (Code insn ∷ items) n ns says budget = or_right (declares_budget line) _ (declared names (slot + slots_in (Code insn)) lines items n ns says.1 budget)
+declared names slot (line ∷ lines) (Code insn ∷ items) n ns says budget = or_right (declares_budget line) _ (declared names (slot + line_slots_in (Code insn)) lines items n ns says.1 budget)
 
 pub surveys_text : AreNamed → {text : List ℕ} {p : Program} (t : IsText text p) (survey : Survey) → IsSurvey (slice_split (λ c. c == 10) text) survey → SurveysText t survey
 surveys_text named {text} {p} t survey is =
@@ -148,7 +148,7 @@ surveys_text named {text} {p} t survey is =
     let slots : slots_of_items t.items ≡ length p.slots = sym (ap length t.code ∙ slots_are t.items) in
     let labels = labels_are named t.names 0 lines t.items t.lines (let few = t.program.slots in omega arith) in
     let pairs = names_from 0 t.items in
-    let P : List (List ℕ × ℕ) → Type 0 = AreApart in
+    let P : List (List ℕ × ℕ) → Type 0 = AreDistinctNames in
     record {
       names = same_function (slot_named survey.names) t.names (λ name.
           let both : (slot : ℕ) → (slot_named pairs name ≡ Some slot) ↔ Defines pairs name slot = slot_named-Defines pairs t.apart name in

@@ -9,7 +9,7 @@ use Rattle.basm_lex.specs.declared.mnemonics.Mnemonic.{Mnemonic}
 use Rattle.basm_lex.specs.Mnemonics.{mnemonic_slots, mnemonic_named}
 use Rattle.basm.specs.declared.survey.Survey.{Survey}
 use Rattle.basm.specs.Names.{HasOneMore, slot_named}
-use Rattle.basm.specs.Relation.{AreApart}
+use Rattle.basm.specs.Relation.{AreDistinctNames}
 
 -- the name of a word that is a label
 unfoldable pub label_of : List ℕ → Option (List ℕ)
@@ -71,7 +71,7 @@ declares_budget line = bytes_eq (word_of line) (codes ".budget")
 -- the survey of these lines
 pub record IsSurvey (lines : List (List ℕ)) (survey : Survey) : Type 0 where
   pub names : (name : List ℕ) → slot_named survey.names name ≡ slot_named (labels_from 0 lines) name
-  pub apart : (survey.repeated ≡ None) ↔ AreApart (labels_from 0 lines)
+  pub apart : (survey.repeated ≡ None) ↔ AreDistinctNames (labels_from 0 lines)
   pub slots : survey.slots ≡ slots_from 0 lines
   pub budget : survey.has_budget ≡ list_any declares_budget lines
 

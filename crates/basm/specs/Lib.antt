@@ -1,5 +1,5 @@
 pub mod Additions
-pub mod Draft
+pub mod PartialImage
 pub mod Codes
 pub mod Labels
 pub mod Names

@@ -51,8 +51,8 @@ abbrev pub WriteNumbers : List (Bor (List ℕ)) → ℤ × ℤ → Type 0
 WriteNumbers operands found = Two (texts operands) (λ a. WritesNumber a found.0) (λ b. WritesNumber b found.1)
 
 -- the address has this subtype and these numbers
-abbrev pub HasFields : (subtype first second : ℤ) → Address → Type 0
-HasFields subtype first second address =
+abbrev pub HasAddressFields : (subtype first second : ℤ) → Address → Type 0
+HasAddressFields subtype first second address =
     (pos (address_subtype address) ≡ subtype) × (address_first address ≡ first) × (address_second address ≡ second)
 
 -- ---- the operand of `.version`

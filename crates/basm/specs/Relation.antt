@@ -120,13 +120,13 @@ pub data Item : Type 0 where
   Code : Insn → Item
 
 -- how many slots a line takes: those of its instruction, or none
-abbrev pub slots_in : Item → ℕ
-slots_in Nothing = 0
-slots_in (Label name) = 0
-slots_in (OneVersion version) = 0
-slots_in (Budget n) = 0
-slots_in (OneLoop l) = 0
-slots_in (Code insn) = slots_of insn
+abbrev pub line_slots_in : Item → ℕ
+line_slots_in Nothing = 0
+line_slots_in (Label name) = 0
+line_slots_in (OneVersion version) = 0
+line_slots_in (Budget n) = 0
+line_slots_in (OneLoop l) = 0
+line_slots_in (Code insn) = slots_of insn
 
 -- the line says the item, if the next instruction begins at the slot
 abbrev pub IsLine : (names : List ℕ → Option ℕ) (slot : ℕ) → List ℕ → Item → Type 0
@@ -148,7 +148,7 @@ AreLines names slot [] [] = Unit {0}
 AreLines names slot [] (item ∷ items) = ⊥
 AreLines names slot (line ∷ lines) [] = ⊥
 AreLines names slot (line ∷ lines) (item ∷ items) =
-    IsLine names slot line item × AreLines names (slot + slots_in item) lines items
+    IsLine names slot line item × AreLines names (slot + line_slots_in item) lines items
 
 -- ---- the whole text
 
@@ -164,7 +164,7 @@ name_of slot (Code insn) = []
 -- the names that the labels of some items define, with their slots, from a slot
 abbrev pub names_from : ℕ → List Item → List (List ℕ × ℕ)
 names_from slot [] = []
-names_from slot (item ∷ items) = name_of slot item ++ names_from (slot + slots_in item) items
+names_from slot (item ∷ items) = name_of slot item ++ names_from (slot + line_slots_in item) items
 
 -- the version that a line declares, if it does
 abbrev pub version_in : Item → List Version
@@ -191,13 +191,13 @@ budget_in (OneLoop l) = []
 budget_in (Code insn) = []
 
 -- the loop that a line declares, if it does
-abbrev pub loop_in : Item → List Loop
-loop_in Nothing = []
-loop_in (Label name) = []
-loop_in (OneVersion version) = []
-loop_in (Budget n) = []
-loop_in (OneLoop l) = l ∷ []
-loop_in (Code insn) = []
+abbrev pub loop_in_line : Item → List Loop
+loop_in_line Nothing = []
+loop_in_line (Label name) = []
+loop_in_line (OneVersion version) = []
+loop_in_line (Budget n) = []
+loop_in_line (OneLoop l) = l ∷ []
+loop_in_line (Code insn) = []
 
 -- the instruction of a line, if it has one
 abbrev pub insn_in : Item → List Insn
@@ -219,9 +219,9 @@ IsFree [] name = Unit {0}
 IsFree (pair ∷ pairs) name = (pair.0 ≢ name) × IsFree pairs name
 
 -- no name is defined twice
-abbrev pub AreApart : List (List ℕ × ℕ) → Type 0
-AreApart [] = Unit {0}
-AreApart (pair ∷ pairs) = IsFree pairs pair.0 × AreApart pairs
+abbrev pub AreDistinctNames : List (List ℕ × ℕ) → Type 0
+AreDistinctNames [] = Unit {0}
+AreDistinctNames (pair ∷ pairs) = IsFree pairs pair.0 × AreDistinctNames pairs
 
 -- the lines write the image: at most one version, one budget, loops in any order, and the instructions in their order
 pub record IsText (text : List ℕ) (p : Program) : Type 0 where
@@ -229,9 +229,9 @@ pub record IsText (text : List ℕ) (p : Program) : Type 0 where
   pub names : List ℕ → Option ℕ
   pub lines : AreLines names 0 (pieces_of text) items
   pub defined : (name : List ℕ) (slot : ℕ) → (names name ≡ Some slot) ↔ Defines (names_from 0 items) name slot
-  pub apart : AreApart (names_from 0 items)
+  pub apart : AreDistinctNames (names_from 0 items)
   pub version : IsVersionOf (flat_map version_in items) p.version
   pub budget : flat_map budget_in items ≡ p.budget ∷ []
-  pub loops : IsPermutation (flat_map loop_in items) p.loops
+  pub loops : IsPermutation (flat_map loop_in_line items) p.loops
   pub code : p.slots ≡ flat_map placed_slots (flat_map insn_in items)
   pub program : IsProgram p

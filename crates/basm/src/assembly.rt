@@ -2,12 +2,12 @@
 
 ghost use Rattle.std.specs.Prelude.{◌≡◌, ◌==◌, IfOk, MatchResult};
 ghost use Rattle.bpf.specs.Program.{Program};
-ghost use Rattle.basm.specs.Draft.{ArePartsOf, SayParts, SurveysText, names_in};
+ghost use Rattle.basm.specs.PartialImage.{ArePartsOf, SayParts, SurveysText, names_in};
 ghost use Rattle.basm.specs.Outcomes.{Makes, out_of_memory};
 ghost use Rattle.basm.specs.Relation.{IsText, pieces_of};
 ghost use Rattle.basm.specs.declared.faults.AsmCode.TheVariants.{Memory};
 
-use crate::draft::Draft;
+use crate::partial_image::PartialImage;
 use crate::faults::{AsmCode, AsmFault};
 use crate::pieces::pieces_of;
 use crate::survey::Survey;
@@ -47,12 +47,12 @@ pub fn assemble(alloc: Global, text: &str) -> Result<Image, AsmFault>
 }
 
 /// What the lines declare.
-fn read_lines(alloc: Global, text: &str, survey: &Survey) -> Result<Draft, AsmFault>
+fn read_lines(alloc: Global, text: &str, survey: &Survey) -> Result<PartialImage, AsmFault>
     ensures parts { IfOk result (SayParts (names_in survey.now) (pieces_of text.now)) }
     ensures exact { (p : Program) (t : IsText text.now p) → SurveysText t survey.now
         → MatchResult result (ArePartsOf t.items) (λ fault. fault ≡ out_of_memory) }
 {
-    let mut parts = Draft::new(alloc);
+    let mut parts = PartialImage::new(alloc);
     let mut number: u32 = 0;
     for line in pieces_of(text) {
         number = number.saturating_add(1);

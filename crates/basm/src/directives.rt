@@ -5,7 +5,7 @@ ghost use Rattle.basm_lex.specs.Numbers.{WritesNumber};
 ghost use Rattle.bpf.specs.declared.header.TheConstants.{MAX_SLOTS};
 ghost use Rattle.bpf.specs.Program.{IsBudget, IsLoop};
 ghost use Rattle.bpf.specs.declared.version.Version.{Version as AVersion};
-ghost use Rattle.basm.specs.Draft.{WritesLoop, names_in};
+ghost use Rattle.basm.specs.PartialImage.{WritesLoop, names_in};
 ghost use Rattle.basm.specs.Names.{slot_named};
 ghost use Rattle.basm.specs.Relation.{WritesEnd, texts};
 ghost use Rattle.basm.specs.Readers.{WritesBudget, WritesVersion};

@@ -7,11 +7,11 @@ ghost use Rattle.bpf.specs.declared.header.TheConstants.{MAX_SLOTS};
 ghost use Rattle.bpf_insn.specs.Spelling.{slots_of};
 ghost use Rattle.basm_lex.specs.Numbers.{WritesNumber};
 ghost use Rattle.basm_lex.specs.Operands.{WritesMemoryOperand, WritesRegister};
-ghost use Rattle.basm.specs.Draft.{PushesInsn, UnlessMemory};
+ghost use Rattle.basm.specs.PartialImage.{PushesInsn, UnlessMemory};
 ghost use Rattle.basm_lex.specs.Mnemonics.{mnemonic_word};
 ghost use Rattle.basm.specs.Names.{slot_named};
 ghost use Rattle.basm.specs.Relation.{Four, Three, Two, WritesInsn, WritesOperand, texts};
-ghost use Rattle.basm.specs.Readers.{HasFields, IsRead, IsReadAt, Reads, ReadsAt, WriteFields, WriteNumbers, WriteRegisterAndNumbers};
+ghost use Rattle.basm.specs.Readers.{HasAddressFields, IsRead, IsReadAt, Reads, ReadsAt, WriteFields, WriteNumbers, WriteRegisterAndNumbers};
 ghost use Rattle.basm.specs.Additions.{AppendsInsn};
 
 use crate::faults::{AsmCode, both};
@@ -366,7 +366,7 @@ fn two_numbers(operands: &[&str]) -> Result<(i32, i32), AsmCode>
 
 /// The address of this subtype, or `None` if no address has it with these numbers.
 fn address(subtype: i32, first: i32, second: i32) -> Option<Address>
-    ensures writes { IfSome result (HasFields subtype first second) }
+    ensures writes { IfSome result (HasAddressFields subtype first second) }
     ensures exact { (found : Address) → pos (address_subtype found) ≡ subtype
         → address_first found ≡ first → address_second found ≡ second → result ≡ Some found }
 {

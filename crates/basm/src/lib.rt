@@ -7,7 +7,7 @@
 mod assembly;
 mod directives;
 mod disassembly;
-mod draft;
+mod partial_image;
 mod faults;
 mod instructions;
 mod laws;

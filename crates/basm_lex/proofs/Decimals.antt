@@ -33,5 +33,5 @@ without_minus [] other = refl
 without_minus (c ∷ cs) other = rw (ne_eqb c 45 (λ same. other cs (ap (λ x. x ∷ cs) same)))
 
 -- the rest of a word after a text
-pub behind : (front word rest : List ℕ) → StripsPrefix (FindsTextPrefix front) word rest → word ≡ front ++ rest
-behind front word rest strips = strips.1.1 ∙ ap (λ x. front ++ x) (sym strips.2)
+pub following : (front word rest : List ℕ) → StripsPrefix (FindsTextPrefix front) word rest → word ≡ front ++ rest
+following front word rest strips = strips.1.1 ∙ ap (λ x. front ++ x) (sym strips.2)

@@ -30,18 +30,18 @@ groups_rise group few =
     (leb-true _ _ parts.0, leb-true _ _ parts.1)
 
 module _ (group a b : ℕ) (few : group ≤ 208) (first : a ≡ start_of group) (next : b ≡ start_of (group + 1)) where
-  behind_group : b ≡ start_of (suc group)
-  behind_group = next ∙ ap start_of (let same : group + 1 ≡ suc group = omega arith in same)
+  after_group : b ≡ start_of (suc group)
+  after_group = next ∙ ap start_of (let same : group + 1 ≡ suc group = omega arith in same)
 
   pub starts_rise : (a ≤ b) × (b ≤ 90)
   starts_rise =
       let rise = groups_rise group few in
-      let order : a ≤ b = rw (first, behind_group) rise.0 in
-      let within : b ≤ 90 = rw behind_group rise.1 in
+      let order : a ≤ b = rw (first, after_group) rise.0 in
+      let within : b ≤ 90 = rw after_group rise.1 in
       (order, within)
 
   pub between_starts : slice_range MNEMONICS a b ≡ slice_range MNEMONICS (start_of group) (start_of (suc group))
-  between_starts = ap (λ x. slice_range MNEMONICS x b) first ∙ ap (slice_range MNEMONICS (start_of group)) behind_group
+  between_starts = ap (λ x. slice_range MNEMONICS x b) first ∙ ap (slice_range MNEMONICS (start_of group)) after_group
 
 -- a mnemonic of another group has another word
 other_word : (word : List ℕ) (m : Mnemonic) → elsewhere (group_of word) m ≡ true → bytes_eq word (mnemonic_word m) ≡ false
@@ -62,12 +62,12 @@ module _ (word : List ℕ) where
   has m = bytes_eq word (mnemonic_word m)
 
   -- those of other groups that come before the rest do not matter
-  behind : (n : ℕ) (ms : List Mnemonic) → list_all (elsewhere (group_of word)) (take n ms) ≡ true → find has (drop n ms) ≡ find has ms
-  behind zero ms all = refl
-  behind (suc n) [] all = refl
-  behind (suc n) (m ∷ ms) all =
+  following : (n : ℕ) (ms : List Mnemonic) → list_all (elsewhere (group_of word)) (take n ms) ≡ true → find has (drop n ms) ≡ find has ms
+  following zero ms all = refl
+  following (suc n) [] all = refl
+  following (suc n) (m ∷ ms) all =
       let parts = and_parts _ _ all in
-      behind n ms parts.1 ∙ sym (cond-false (has m) (Some m) (find has ms) (other_word word m parts.0))
+      following n ms parts.1 ∙ sym (cond-false (has m) (Some m) (find has ms) (other_word word m parts.0))
 
   none_of : (ms : List Mnemonic) → list_all (elsewhere (group_of word)) ms ≡ true → find has ms ≡ None
   none_of [] all = refl
@@ -94,4 +94,4 @@ found_in_group word group ms is few part =
     let rise = groups_rise group few in
     let end : drop (b - a) (drop a MNEMONICS) ≡ drop b MNEMONICS = drop_rest a b MNEMONICS rise.0 in
     let Q : List Mnemonic → Type 0 = λ xs. list_all (elsewhere (group_of word)) xs ≡ true in
-    ap (find (has word)) part ∙ before word (b - a) (drop a MNEMONICS) (subst Q (sym end) others.1) ∙ behind word a MNEMONICS others.0
+    ap (find (has word)) part ∙ before word (b - a) (drop a MNEMONICS) (subst Q (sym end) others.1) ∙ following word a MNEMONICS others.0

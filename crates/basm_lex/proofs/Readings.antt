@@ -31,13 +31,13 @@ rest_same : (a b : ℕ) (xs ys : List ℕ) → a ∷ xs ≡ b ∷ ys → xs ≡ 
 rest_same a b xs ys same = cc
 
 -- the text after the sign of a distance
-pub behind_plus : (digits : List ℕ) (value : ℤ) → WritesDistance (43 ∷ digits) value → WritesMagnitude digits value
-behind_plus digits value (inl f) = subst (λ d. WritesMagnitude d value) (sym (rest_same 43 43 digits f.digits f.signed)) f.magnitude
-behind_plus digits value (inr b) = absurd (omega (arith, first_same 43 45 digits b.digits b.signed))
+pub after_plus : (digits : List ℕ) (value : ℤ) → WritesDistance (43 ∷ digits) value → WritesMagnitude digits value
+after_plus digits value (inl f) = subst (λ d. WritesMagnitude d value) (sym (rest_same 43 43 digits f.digits f.signed)) f.magnitude
+after_plus digits value (inr b) = absurd (omega (arith, first_same 43 45 digits b.digits b.signed))
 
-pub behind_minus : (digits : List ℕ) (value : ℤ) → WritesDistance (45 ∷ digits) value → (forward : ℤ) × WritesMagnitude digits forward × (value ≡ neg_ℤ forward)
-behind_minus digits value (inl f) = absurd (omega (arith, first_same 45 43 digits f.digits f.signed))
-behind_minus digits value (inr b) = (b.forward, subst (λ d. WritesMagnitude d b.forward) (sym (rest_same 45 45 digits b.digits b.signed)) b.magnitude, b.negated)
+pub after_minus : (digits : List ℕ) (value : ℤ) → WritesDistance (45 ∷ digits) value → (forward : ℤ) × WritesMagnitude digits forward × (value ≡ neg_ℤ forward)
+after_minus digits value (inl f) = absurd (omega (arith, first_same 45 43 digits f.digits f.signed))
+after_minus digits value (inr b) = (b.forward, subst (λ d. WritesMagnitude d b.forward) (sym (rest_same 45 45 digits b.digits b.signed)) b.magnitude, b.negated)
 
 -- a distance begins with a sign
 pub signed : (word : List ℕ) (value : ℤ) → ((rest : List ℕ) → word ≢ 43 ∷ rest) → ((rest : List ℕ) → word ≢ 45 ∷ rest) → ¬ WritesDistance word value
@@ -51,12 +51,12 @@ no_value e x same = cc same
 -- if a magnitude is refused, none fits
 pub refused_plus : {E : Type 0} (digits : List ℕ) (e : E) → ((value : ℤ) → WritesMagnitude digits value → value ≤ℤ pos 2147483648 → Err e ≡ Ok value)
     → (value : ℤ) → WritesDistance (43 ∷ digits) value → FitsSigned w32 value → ⊥
-refused_plus digits e read value w fits = no_value e value (read value (behind_plus digits value w) (omega (arith, ints)))
+refused_plus digits e read value w fits = no_value e value (read value (after_plus digits value w) (omega (arith, ints)))
 
 pub refused_minus : {E : Type 0} (digits : List ℕ) (e : E) → ((value : ℤ) → WritesMagnitude digits value → value ≤ℤ pos 2147483648 → Err e ≡ Ok value)
     → (value : ℤ) → WritesDistance (45 ∷ digits) value → FitsSigned w32 value → ⊥
 refused_minus digits e read value w fits =
-    let back = behind_minus digits value w in
+    let back = after_minus digits value w in
     let negated : value ≡ neg_ℤ back.0 = back.2 in
     no_value e back.0 (read back.0 back.1 (omega (arith, ints)))
 

@@ -18,9 +18,9 @@ pieces_equal word rest first second whole n front end joined =
     ends_equal first rest second ∙ ap (λ x. bytes_eq x (first ++ second)) word_is ∙ ap (bytes_eq word) joined
 
 -- if the first does not pass, the result is among the others
-pub find_behind : (test : Mnemonic → Bool) (rest all : List Mnemonic) (d : Mnemonic) → 1 ≤ length rest → test (get_or rest 0 d) ≡ false
+pub find_after : (test : Mnemonic → Bool) (rest all : List Mnemonic) (d : Mnemonic) → 1 ≤ length rest → test (get_or rest 0 d) ≡ false
     → find test rest ≡ find test all → find test (take (length rest - 1) (drop 1 rest)) ≡ find test all
-find_behind test [] all d some other same = absurd (omega arith)
-find_behind test (m ∷ rest) all d some other same =
+find_after test [] all d some other same = absurd (omega arith)
+find_after test (m ∷ rest) all d some other same =
     let passed : find test (m ∷ rest) ≡ find test rest = rw other in
     ap (find test) (take_all (length (m ∷ rest) - 1) rest (omega arith)) ∙ sym passed ∙ same

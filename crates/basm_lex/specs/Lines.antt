@@ -55,12 +55,12 @@ parts_between_commas [] = []
 parts_between_commas (c ∷ cs) = map trimmed_text (slice_split is_comma (c ∷ cs))
 
 -- what follows the first word
-unfoldable pub rest_of : List ℕ → List ℕ
-rest_of line = after_first is_space (code_of line)
+unfoldable pub rest_of_line : List ℕ → List ℕ
+rest_of_line line = after_first is_space (code_of line)
 
 -- the operands
 abbrev pub operands_of : List ℕ → List (List ℕ)
-operands_of line = parts_between_commas (rest_of line)
+operands_of line = parts_between_commas (rest_of_line line)
 
 -- the line is the label of the name, with nothing after it
 abbrev pub IsLabel : List ℕ → List ℕ → Type 0

@@ -2,14 +2,14 @@
 
 ghost use Rattle.std.specs.Prelude.{◌≡◌, ◌==◌, IfOk, MatchOption, length};
 ghost use Rattle.std.specs.List.{before_first};
-ghost use Rattle.basm_lex.specs.Lines.{IsLabel, IsNoLabel, code_of, without_trailing_spaces, is_semicolon, operands_of, rest_of, parts_between_commas, texts, without_leading_spaces, trimmed_text, word_of};
+ghost use Rattle.basm_lex.specs.Lines.{IsLabel, IsNoLabel, code_of, without_trailing_spaces, is_semicolon, operands_of, rest_of_line, parts_between_commas, texts, without_leading_spaces, trimmed_text, word_of};
 
 use crate::names::label_name;
 use std::alloc::{AllocError, Global};
 
 /// What a line says, without its comment.
 #[derive(Debug, Drop)]
-pub struct Statement<'a> {
+pub struct InstructionLine<'a> {
     /// The first word. It is empty in a line without words.
     pub word: &'a str,
     /// The parts between the commas after it, without the spaces around them.
@@ -18,7 +18,7 @@ pub struct Statement<'a> {
 
 /// The beginning of a line, without its comment.
 #[derive(Debug, Drop)]
-pub struct Head<'a> {
+pub struct LineHead<'a> {
     /// The first word. It is empty in a line without words.
     pub word: &'a str,
     /// The name that the line defines, if the line is a label with nothing after it.
@@ -58,10 +58,10 @@ pub fn before_comment(line: &str) -> &str
 }
 
 /// The first word of a line, and what follows it.
-#[tactic(auto, unfolding(crate::specs::Lines::word_of, crate::specs::Lines::rest_of))]
+#[tactic(auto, unfolding(crate::specs::Lines::word_of, crate::specs::Lines::rest_of_line))]
 fn split_word(line: &str) -> (&str, &str)
     ensures word { result.0.now ≡ word_of line.now }
-    ensures rest { result.1.now ≡ rest_of line.now }
+    ensures rest { result.1.now ≡ rest_of_line line.now }
 {
     let code = code_of(line);
     if code.is_empty() {
@@ -74,19 +74,19 @@ fn split_word(line: &str) -> (&str, &str)
 }
 
 /// The first word of a line, and the name that it defines.
-pub fn read_head(line: &str) -> Head<'_>
+pub fn read_head(line: &str) -> LineHead<'_>
     ensures word { result.word.now ≡ word_of line.now }
     ensures label { MatchOption result.label (IsNoLabel line.now)
         (λ name. IsLabel line.now name.now) }
 {
     let (word, after) = split_word(line);
     if after.is_empty() {
-        Head {
+        LineHead {
             word,
             label: label_name(word),
         }
     } else {
-        Head { word, label: None }
+        LineHead { word, label: None }
     }
 }
 
@@ -96,13 +96,13 @@ pub fn read_head(line: &str) -> Head<'_>
 /// # Errors
 ///
 /// Memory is refused.
-pub fn read_statement<'a>(alloc: Global, line: &'a str) -> Result<Statement<'a>, AllocError>
+pub fn read_statement<'a>(alloc: Global, line: &'a str) -> Result<InstructionLine<'a>, AllocError>
     ensures word { IfOk result (λ found. found.word.now ≡ word_of line.now) }
     ensures operands { IfOk result (λ found. texts found.operands.items ≡ operands_of line.now) }
 {
     let (word, rest) = split_word(line);
     let operands = read_operands(alloc, rest)?;
-    Ok(Statement { word, operands })
+    Ok(InstructionLine { word, operands })
 }
 
 /// The parts between commas, without the spaces around them.

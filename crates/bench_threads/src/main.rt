@@ -15,7 +15,7 @@ use std::marker::Brand;
 use std::rt::{Clock, Env};
 use std::sync::Wait;
 use std::thread::Threads;
-use target::Opened;
+use target::NodeHistory;
 
 /// `mov r0, 0; exit`.
 const YES: &[u8; 32] = b"BPFA\x01\x00\x02\x00\x02\x00\x00\x00\x00\x00\x00\x00\
@@ -43,7 +43,7 @@ fn measure<R: Threads + Wait + Clock + Print + Sync>(
         let (writes, took) = serve_writes::<Brand, _>(
             rt,
             alloc,
-            Opened::new(),
+            NodeHistory::new(),
             factory,
             ports,
             has_one_bank,

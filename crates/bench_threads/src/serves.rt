@@ -15,7 +15,7 @@ use std::rt::Clock;
 use std::sync::Wait;
 use std::thread::Threads;
 use std::time::Instant;
-use target::{Family, Node, Opened, Pass};
+use target::{Family, Node, NodeHistory, Pass};
 
 /// How many packets each port is given: as many as its queue holds beside the end mark.
 const PACKETS: u16 = MAX_CAPACITY - 1;
@@ -126,7 +126,7 @@ fn successes<J: Family>(workers: &[Worker<J, Replies>]) -> u64 {
 pub fn serve_writes<J: Family + Send + Sync + 'static, R: Threads + Wait + Clock + Sync>(
     rt: &R,
     alloc: Global,
-    opened: Opened,
+    opened: NodeHistory,
     program: Accepted,
     ports: u8,
     has_one_bank: bool,

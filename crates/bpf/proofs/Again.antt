@@ -5,8 +5,8 @@ use Rattle.std.proofs.lemmas.Bool.Decides.{nat_tests}
 use Rattle.std.specs.List.{flat_map}
 use Rattle.std.specs.Option.{option_map}
 use Rattle.bpf_insn.specs.declared.insn.Insn.{Insn}
-use Rattle.bpf_insn.specs.Spelling.{second_immediate, second_fields, bytes_of, spelling, first_bytes, second_bytes, Spells}
-use Rattle.bpf_insn.specs.Reading.{reading}
+use Rattle.bpf_insn.specs.Spelling.{second_immediate, second_fields, slot_bytes_of, spelling, first_bytes, second_bytes, Spells}
+use Rattle.bpf_insn.specs.Reading.{insn_reading}
 use Rattle.bpf.specs.declared.loops.Loop.{Loop}
 use Rattle.bpf.specs.declared.fault.ImageFault.{ImageFault}
 use Rattle.bpf.specs.Program.{AreSlots, AreLoops, IsLoop, slot_bytes, loop_bytes}
@@ -14,7 +14,7 @@ use Rattle.bpf.specs.Reading.{slot_in, slot_reading, slots_reading, are_loops, i
 
 -- the law of `bpf_insn` that the proofs use: bytes that spell an instruction are read as it
 abbrev pub IsRead : Type 0
-IsRead = (bytes : List ℕ) (next : Option (List ℕ)) (insn : Insn) → Spells bytes next insn → reading bytes next ≡ Ok insn
+IsRead = (bytes : List ℕ) (next : Option (List ℕ)) (insn : Insn) → Spells bytes next insn → insn_reading bytes next ≡ Ok insn
 
 pub drop_front : (front rest : List ℕ) (k : ℕ) → length front ≡ k → drop k (front ++ rest) ≡ rest
 drop_front front rest k h = subst (λ (n : ℕ). drop n (front ++ rest) ≡ rest) h (drop-append_seam front rest)
@@ -29,23 +29,23 @@ slot_in_front front rest h =
     rw test (ap (λ (x : List ℕ). Some x) (take_front front rest 8 h))
 
 first_part : (i : Insn) (rest : List ℕ) → take 8 (spelling i ++ rest) ≡ first_bytes i
-unfolding bytes_of
+unfolding slot_bytes_of
 first_part i rest = refl
 
 rest_part : (i : Insn) (rest : List ℕ) → drop 8 (spelling i ++ rest) ≡ unwrap_or (second_bytes i) [] ++ rest
-unfolding bytes_of
+unfolding slot_bytes_of
 rest_part i rest = refl
 
-second_length : (z : Option ℤ) → length (unwrap_or (option_map bytes_of (second_fields z)) []) ≡ (if is_some z then 8 else 0)
-unfolding bytes_of
+second_length : (z : Option ℤ) → length (unwrap_or (option_map slot_bytes_of (second_fields z)) []) ≡ (if is_some z then 8 else 0)
+unfolding slot_bytes_of
 second_length None = refl
 second_length (Some z) = refl
 
-second_in : (z : Option ℤ) (rest : List ℕ) → IfSome (option_map bytes_of (second_fields z)) (λ s. slot_in (unwrap_or (option_map bytes_of (second_fields z)) [] ++ rest) ≡ Some s)
+second_in : (z : Option ℤ) (rest : List ℕ) → IfSome (option_map slot_bytes_of (second_fields z)) (λ s. slot_in (unwrap_or (option_map slot_bytes_of (second_fields z)) [] ++ rest) ≡ Some s)
 second_in None rest = tt
 second_in (Some z) rest = slot_in_front _ rest (second_length (Some z))
 
-insn_again : IsRead → (i : Insn) (rest : List ℕ) (xs : List (Option Insn)) → AreSlots false (Some i ∷ xs) → reading (take 8 (spelling i ++ rest)) (slot_in (drop 8 (spelling i ++ rest))) ≡ Ok i
+insn_again : IsRead → (i : Insn) (rest : List ℕ) (xs : List (Option Insn)) → AreSlots false (Some i ∷ xs) → insn_reading (take 8 (spelling i ++ rest)) (slot_in (drop 8 (spelling i ++ rest))) ≡ Ok i
 insn_again law i rest xs are =
     law _ _ i (record {
       is_insn = are.0;
@@ -69,7 +69,7 @@ slots_again law (Some i ∷ xs) k false [] h are =
     rw read (rw (rest_part i (flat_map slot_bytes xs)) (rw again refl))
 
 pub slots_length : (xs : List (Option Insn)) (second : Bool) (pending : List ℕ) → length pending ≡ (if second then 8 else 0) → AreSlots second xs → length (pending ++ flat_map slot_bytes xs) ≡ 8 * length xs
-unfolding bytes_of
+unfolding slot_bytes_of
 slots_length [] true pending h are = cc
 slots_length [] false pending h are = simp length-append (omega (arith, h))
 slots_length (None ∷ xs) true pending h are =

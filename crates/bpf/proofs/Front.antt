@@ -5,7 +5,7 @@ use Rattle.bpf_insn.specs.declared.insn.Insn.{Insn}
 use Rattle.bpf.specs.declared.loops.Loop.{Loop}
 use Rattle.bpf.specs.declared.fault.ImageFault.{ImageFault}
 use Rattle.bpf.specs.declared.fault.ImageFault.TheVariants as faults
-use Rattle.bpf.specs.Reading.{◌>>=◌, Fails, are_loops, loop_in, loops_in, loops_reading, slot_reading, slots_reading, begins_two}
+use Rattle.bpf.specs.Reading.{◌>>=◌, FailsReading, are_loops, loop_in, loops_in, loops_reading, slot_reading, slots_reading, begins_two}
 
 -- what was read before, and what is still read
 abbrev pub with_front : {X : Type 0} → List X → Result (List X) ImageFault → Result (List X) ImageFault
@@ -16,7 +16,7 @@ regroup {X} front x (Ok xs) = ap (λ (ys : List X). Ok ys) (simp append_assoc)
 regroup front x (Err e) = refl
 
 -- a fault of what is read next is the fault of all
-pub fails_all : {X : Type 0} (e : ImageFault) (part total : Result X ImageFault) → Fails e part → part ≡ total → Fails e total
+pub fails_all : {X : Type 0} (e : ImageFault) (part total : Result X ImageFault) → FailsReading e part → part ≡ total → FailsReading e total
 fails_all faults.Memory part total h same = tt
 fails_all faults.Magic part total h same = sym same ∙ h
 fails_all faults.Version part total h same = sym same ∙ h
@@ -26,7 +26,7 @@ fails_all faults.Budget part total h same = sym same ∙ h
 fails_all faults.Loop part total h same = sym same ∙ h
 fails_all (faults.Insn slot fault) part total h same = sym same ∙ h
 
-pub fails_first : {X Y : Type 0} (e : ImageFault) (first : Result X ImageFault) (k : X → Result Y ImageFault) → Fails e first → Fails e (first >>= k)
+pub fails_first : {X Y : Type 0} (e : ImageFault) (first : Result X ImageFault) (k : X → Result Y ImageFault) → FailsReading e first → FailsReading e (first >>= k)
 fails_first faults.Memory first k h = tt
 fails_first faults.Magic first k h = rw h refl
 fails_first faults.Version first k h = rw h refl
@@ -67,12 +67,12 @@ pub loops_tested : (slots count : ℕ) (bytes : List ℕ) (loops : List Loop) �
 unfolding loops_reading
 loops_tested slots count bytes loops found = rw found refl
 
-pub loops_tested_fail : (slots count : ℕ) (bytes : List ℕ) (e : ImageFault) → Fails e (loops_in count bytes) → Fails e (loops_reading slots count bytes)
+pub loops_tested_fail : (slots count : ℕ) (bytes : List ℕ) (e : ImageFault) → FailsReading e (loops_in count bytes) → FailsReading e (loops_reading slots count bytes)
 unfolding loops_reading
 loops_tested_fail slots count bytes e fails = fails_first e (loops_in count bytes) _ fails
 
 -- an error is by itself never a fault of memory
-pub is_failure : {X : Type 0} (e : ImageFault) (total : Result X ImageFault) → total ≡ Err e → Fails e total
+pub is_failure : {X : Type 0} (e : ImageFault) (total : Result X ImageFault) → total ≡ Err e → FailsReading e total
 is_failure faults.Memory total h = tt
 is_failure faults.Magic total h = h
 is_failure faults.Version total h = h
@@ -93,12 +93,12 @@ slot_read front count i second bytes x total lt h so_far =
     rw (k, h) (regroup front x (slots_reading (count - (i + 1)) (i + 1) (begins_two x) (drop 8 bytes))) in
     sym one ∙ so_far
 
-pub slot_fails : (e : ImageFault) (front : List (Option Insn)) (count i : ℕ) (second : Bool) (bytes : List ℕ) (total : Result (List (Option Insn)) ImageFault) → i < count → Fails e (slot_reading i second bytes)
-    → with_front front (slots_reading (count - i) i second bytes) ≡ total → Fails e total
+pub slot_fails : (e : ImageFault) (front : List (Option Insn)) (count i : ℕ) (second : Bool) (bytes : List ℕ) (total : Result (List (Option Insn)) ImageFault) → i < count → FailsReading e (slot_reading i second bytes)
+    → with_front front (slots_reading (count - i) i second bytes) ≡ total → FailsReading e total
 unfolding slots_reading
 slot_fails e front count i second bytes total lt h so_far =
     let k : count - i ≡ suc (count - (i + 1)) = omega arith in
-    let fails : Fails e (with_front front (slots_reading (suc (count - (i + 1))) i second bytes)) = fails_first e _ _ (fails_first e (slot_reading i second bytes) _ h) in
+    let fails : FailsReading e (with_front front (slots_reading (suc (count - (i + 1))) i second bytes)) = fails_first e _ _ (fails_first e (slot_reading i second bytes) _ h) in
     fails_all e _ total fails (rw k at so_far)
 
 pub slots_done : (front : List (Option Insn)) (count i : ℕ) (second : Bool) (bytes : List ℕ) (total : Result (List (Option Insn)) ImageFault) → count ≤ i → with_front front (slots_reading (count - i) i second bytes) ≡ total → total ≡ Ok front

@@ -5,8 +5,8 @@ use Rattle.std.proofs.lemmas.List.{drop-drop}
 use Rattle.bpf_insn.specs.declared.insn.Insn.{Insn}
 use Rattle.bpf_insn.specs.declared.decoder.BadInsn.{BadInsn}
 use Rattle.bpf_insn.specs.Faults.{IsFault}
-use Rattle.bpf_insn.specs.Reading.{reading}
-use Rattle.bpf.specs.declared.header.Header.{Header}
+use Rattle.bpf_insn.specs.Reading.{insn_reading}
+use Rattle.bpf.specs.declared.header.ImageHeader.{ImageHeader}
 use Rattle.bpf.specs.declared.loops.Loop.{Loop}
 use Rattle.bpf.specs.declared.version.Version.{Version}
 use Rattle.bpf.specs.Version.{version_of}
@@ -17,7 +17,7 @@ use Rattle.bpf.specs.Reading.{◌>>=◌, Gives, IsFaultAt, begins_two, bytes_at,
 
 -- the law of `bpf_insn` that the proofs use: a fault that is read is in the bytes
 abbrev pub IsExplained : Type 0
-IsExplained = (bytes : List ℕ) (next : Option (List ℕ)) (e : BadInsn) → slice_index bytes 0 < 256 → reading bytes next ≡ Err e → IsFault bytes next e
+IsExplained = (bytes : List ℕ) (next : Option (List ℕ)) (e : BadInsn) → slice_index bytes 0 < 256 → insn_reading bytes next ≡ Err e → IsFault bytes next e
 
 -- ---- a chain that fails
 
@@ -34,10 +34,10 @@ abbrev is_counted : List ℕ → Bool
 is_counted bytes = is_count (slice_index bytes 5) (half_at 6 bytes) (word_at 12 bytes)
 
 -- the header in the bytes
-abbrev header_at : Version → List ℕ → Header
+abbrev header_at : Version → List ℕ → ImageHeader
 header_at version bytes = record { version = version; loops = slice_index bytes 5; slots = half_at 6 bytes; budget = word_at 8 bytes }
 
-declared_no_slot : (a b : Bool) (h : Header) (slot : ℕ) (fault : BadInsn) → (if a then (if b then Ok h else Err faults.Budget) else Err faults.Count) ≡ Err (faults.Insn slot fault) → ⊥
+declared_no_slot : (a b : Bool) (h : ImageHeader) (slot : ℕ) (fault : BadInsn) → (if a then (if b then Ok h else Err faults.Budget) else Err faults.Count) ≡ Err (faults.Insn slot fault) → ⊥
 declared_no_slot true true h slot fault e = cc
 declared_no_slot true false h slot fault e = cc
 declared_no_slot false b h slot fault e = cc
@@ -48,28 +48,28 @@ header_no_slot bytes slot fault e =
     by_tests (starts_with nat_eq bytes magic) (nat_lt (length bytes) 5) (version_of (slice_index bytes 4)) (nat_lt (length bytes) 16) (λ version. counts_reading version bytes)
     (λ version. declared_no_slot (is_counted bytes) (is_budget (word_at 8 bytes)) (header_at version bytes) slot fault) e
   where
-    by_tests : (a b : Bool) (found : Option Version) (c : Bool) (r : Version → Result Header ImageFault) → ((version : Version) → r version ≡ Err (faults.Insn slot fault) → ⊥) → (if a then ((if b then Err faults.Version else known_version found) >>= (λ version. if c then Err faults.Length else r version)) else Err faults.Magic) ≡ Err (faults.Insn slot fault) → ⊥
+    by_tests : (a b : Bool) (found : Option Version) (c : Bool) (r : Version → Result ImageHeader ImageFault) → ((version : Version) → r version ≡ Err (faults.Insn slot fault) → ⊥) → (if a then ((if b then Err faults.Version else known_version found) >>= (λ version. if c then Err faults.Length else r version)) else Err faults.Magic) ≡ Err (faults.Insn slot fault) → ⊥
     by_tests true true found c r never e = cc
     by_tests true false None c r never e = cc
     by_tests true false (Some version) true r never e = cc
     by_tests true false (Some version) false r never e = never version e
     by_tests false b found c r never e = cc
 
-declared_loops : (a b : Bool) (g h : Header) → (if a then (if b then Ok g else Err faults.Budget) else Err faults.Count) ≡ Ok h → g.loops ≡ h.loops
+declared_loops : (a b : Bool) (g h : ImageHeader) → (if a then (if b then Ok g else Err faults.Budget) else Err faults.Count) ≡ Ok h → g.loops ≡ h.loops
 declared_loops true true g h e =
     let same : g ≡ h = cc in
-    ap (λ (x : Header). x.loops) same
+    ap (λ (x : ImageHeader). x.loops) same
 declared_loops true false g h e = cc
 declared_loops false b g h e = cc
 
 -- the loops that a header counts
-header_loops : (bytes : List ℕ) (h : Header) → header_reading bytes ≡ Ok h → slice_index bytes 5 ≡ h.loops
+header_loops : (bytes : List ℕ) (h : ImageHeader) → header_reading bytes ≡ Ok h → slice_index bytes 5 ≡ h.loops
 unfolding header_reading counts_reading version_reading
 header_loops bytes h e =
     by_tests (starts_with nat_eq bytes magic) (nat_lt (length bytes) 5) (version_of (slice_index bytes 4)) (nat_lt (length bytes) 16) (λ version. counts_reading version bytes)
     (λ version. declared_loops (is_counted bytes) (is_budget (word_at 8 bytes)) (header_at version bytes) h) e
   where
-    by_tests : (a b : Bool) (found : Option Version) (c : Bool) (r : Version → Result Header ImageFault) → ((version : Version) → r version ≡ Ok h → slice_index bytes 5 ≡ h.loops) → (if a then ((if b then Err faults.Version else known_version found) >>= (λ version. if c then Err faults.Length else r version)) else Err faults.Magic) ≡ Ok h → slice_index bytes 5 ≡ h.loops
+    by_tests : (a b : Bool) (found : Option Version) (c : Bool) (r : Version → Result ImageHeader ImageFault) → ((version : Version) → r version ≡ Ok h → slice_index bytes 5 ≡ h.loops) → (if a then ((if b then Err faults.Version else known_version found) >>= (λ version. if c then Err faults.Length else r version)) else Err faults.Magic) ≡ Ok h → slice_index bytes 5 ≡ h.loops
     by_tests true true found c r is e = cc
     by_tests true false None c r is e = cc
     by_tests true false (Some version) true r is e = cc
@@ -117,13 +117,13 @@ loops_no_slot slots count bytes slot fault e = by_found (came_from (loops_in cou
 -- the fault is found some slots further on
 abbrev pub IsRead : (slot : ℕ) → List ℕ → (named : ℕ) → BadInsn → Type 0
 IsRead slot bytes named fault =
-    (j : ℕ) × (named ≡ slot + j) × (reading (take 8 (drop (8 * j) bytes)) (slot_in (drop 8 (drop (8 * j) bytes))) ≡ Err fault)
+    (j : ℕ) × (named ≡ slot + j) × (insn_reading (take 8 (drop (8 * j) bytes)) (slot_in (drop 8 (drop (8 * j) bytes))) ≡ Err fault)
 
 read_later : (slot : ℕ) (bytes : List ℕ) (named : ℕ) (fault : BadInsn) → IsRead (slot + 1) (drop 8 bytes) named fault → IsRead slot bytes named fault
 read_later slot bytes named fault p =
     let further : 8 + 8 * p.0 ≡ 8 * suc p.0 = omega arith in
     let at : drop (8 * p.0) (drop 8 bytes) ≡ drop (8 * suc p.0) bytes = drop-drop (8 * p.0) 8 bytes ∙ ap (λ (n : ℕ). drop n bytes) further in
-    (suc p.0, omega (arith, p.1), subst (λ (b : List ℕ). reading (take 8 b) (slot_in (drop 8 b)) ≡ Err fault) at p.2)
+    (suc p.0, omega (arith, p.1), subst (λ (b : List ℕ). insn_reading (take 8 b) (slot_in (drop 8 b)) ≡ Err fault) at p.2)
 
 found_fault : (slot : ℕ) (r : Result Insn BadInsn) (named : ℕ) (fault : BadInsn) → slot_result slot r ≡ Err (faults.Insn named fault) → (named ≡ slot) × (r ≡ Err fault)
 found_fault slot (Ok insn) named fault e = cc
@@ -146,7 +146,7 @@ slots_fault (suc n) slot second bytes named fault e =
     by_first : (second : Bool) → ((x : Option Insn) → slots_reading n (slot + 1) (begins_two x) (drop 8 bytes) ≡ Err (faults.Insn named fault) → IsRead (slot + 1) (drop 8 bytes) named fault) → (slot_reading slot second bytes ≡ Err (faults.Insn named fault)) ⊎ ((x : Option Insn) × (slot_reading slot second bytes ≡ Ok x) × ((slots_reading n (slot + 1) (begins_two x) (drop 8 bytes) >>= (λ xs. Ok (x ∷ xs))) ≡ Err (faults.Insn named fault))) → IsRead slot bytes named fault
     by_first true later (inl e) = cc
     by_first false later (inl e) =
-        let found = found_fault slot (reading (take 8 bytes) (slot_in (drop 8 bytes))) named fault e in
+        let found = found_fault slot (insn_reading (take 8 bytes) (slot_in (drop 8 bytes))) named fault e in
         (0, omega (arith, found.0), found.1)
     by_first second later (inr p) = by_rest p.0 (later p.0) (came_from (slots_reading n (slot + 1) (begins_two p.0) (drop 8 bytes)) _ (faults.Insn named fault) p.2)
 
@@ -158,18 +158,18 @@ first_below zero (b ∷ bytes) h = h 0
 first_below (suc k) [] h = lit< tt
 first_below (suc k) (b ∷ bytes) h = first_below k bytes (λ i. h (suc i))
 
-named_at : IsExplained → (bytes : List ℕ) (h : Header) (named : ℕ) (fault : BadInsn) → ((i : ℕ) → slice_index bytes i < 256) → slice_index bytes 5 ≡ h.loops → IsRead 0 (drop (16 + 8 * h.loops) bytes) named fault → IsFaultAt bytes (faults.Insn named fault)
+named_at : IsExplained → (bytes : List ℕ) (h : ImageHeader) (named : ℕ) (fault : BadInsn) → ((i : ℕ) → slice_index bytes i < 256) → slice_index bytes 5 ≡ h.loops → IsRead 0 (drop (16 + 8 * h.loops) bytes) named fault → IsFaultAt bytes (faults.Insn named fault)
 named_at law bytes h named fault bounds loops p =
     let here : p.0 ≡ named = omega (arith, p.1) in
     let start : drop (16 + 8 * h.loops) bytes ≡ drop (16 + 8 * slice_index bytes 5) bytes = ap (λ (n : ℕ). drop (16 + 8 * n) bytes) (sym loops) in
     let at : drop (8 * p.0) (drop (16 + 8 * h.loops) bytes) ≡ bytes_at bytes named = ap (λ (b : List ℕ). drop (8 * p.0) b) start ∙ ap (λ (n : ℕ). drop (8 * n) (drop (16 + 8 * slice_index bytes 5) bytes)) here in
-    let read = subst (λ (b : List ℕ). reading (take 8 b) (slot_in (drop 8 b)) ≡ Err fault) at p.2 in
+    let read = subst (λ (b : List ℕ). insn_reading (take 8 b) (slot_in (drop 8 b)) ≡ Err fault) at p.2 in
     let joined : drop (8 * named) (drop (16 + 8 * slice_index bytes 5) bytes) ≡ drop (16 + 8 * slice_index bytes 5 + 8 * named) bytes = drop-drop (8 * named) (16 + 8 * slice_index bytes 5) bytes in
     let below = subst (λ (b : List ℕ). slice_index (take 8 b) 0 < 256) (sym joined) (first_below (16 + 8 * slice_index bytes 5 + 8 * named) bytes bounds) in
     law _ _ fault below read
 
 -- what is read after the header
-abbrev pub rest_of : List ℕ → Header → Result Program ImageFault
+abbrev pub rest_of : List ℕ → ImageHeader → Result Program ImageFault
 rest_of bytes h =
     if nat_eq (length bytes) (16 + 8 * h.loops + 8 * h.slots)
     then (loops_reading h.slots h.loops (drop 16 (take (16 + 8 * h.loops) bytes)) >>= (λ loops.
@@ -181,19 +181,19 @@ pub fault_named : IsExplained → (bytes : List ℕ) (named : ℕ) (fault : BadI
 unfolding image_reading
 fault_named law bytes named fault bounds e = by_header (came_from (header_reading bytes) (rest_of bytes) (faults.Insn named fault) e)
   where
-    by_slots : (h : Header) (loops : List Loop) → slice_index bytes 5 ≡ h.loops → (slots_reading h.slots 0 false (drop (16 + 8 * h.loops) bytes) ≡ Err (faults.Insn named fault)) ⊎ ((slots : List (Option Insn)) × (slots_reading h.slots 0 false (drop (16 + 8 * h.loops) bytes) ≡ Ok slots) × ((let r : Result Program ImageFault = Ok (program h.version h.budget loops slots) in r) ≡ Err (faults.Insn named fault))) → IsFaultAt bytes (faults.Insn named fault)
+    by_slots : (h : ImageHeader) (loops : List Loop) → slice_index bytes 5 ≡ h.loops → (slots_reading h.slots 0 false (drop (16 + 8 * h.loops) bytes) ≡ Err (faults.Insn named fault)) ⊎ ((slots : List (Option Insn)) × (slots_reading h.slots 0 false (drop (16 + 8 * h.loops) bytes) ≡ Ok slots) × ((let r : Result Program ImageFault = Ok (program h.version h.budget loops slots) in r) ≡ Err (faults.Insn named fault))) → IsFaultAt bytes (faults.Insn named fault)
     by_slots h loops count (inl e) = named_at law bytes h named fault bounds count (slots_fault h.slots 0 false _ named fault e)
     by_slots h loops count (inr p) = let never = p.2 in cc
 
-    by_loops : (h : Header) → slice_index bytes 5 ≡ h.loops → (loops_reading h.slots h.loops (drop 16 (take (16 + 8 * h.loops) bytes)) ≡ Err (faults.Insn named fault)) ⊎ ((loops : List Loop) × (loops_reading h.slots h.loops (drop 16 (take (16 + 8 * h.loops) bytes)) ≡ Ok loops) × ((slots_reading h.slots 0 false (drop (16 + 8 * h.loops) bytes) >>= (λ slots. Ok (program h.version h.budget loops slots))) ≡ Err (faults.Insn named fault))) → IsFaultAt bytes (faults.Insn named fault)
+    by_loops : (h : ImageHeader) → slice_index bytes 5 ≡ h.loops → (loops_reading h.slots h.loops (drop 16 (take (16 + 8 * h.loops) bytes)) ≡ Err (faults.Insn named fault)) ⊎ ((loops : List Loop) × (loops_reading h.slots h.loops (drop 16 (take (16 + 8 * h.loops) bytes)) ≡ Ok loops) × ((slots_reading h.slots 0 false (drop (16 + 8 * h.loops) bytes) >>= (λ slots. Ok (program h.version h.budget loops slots))) ≡ Err (faults.Insn named fault))) → IsFaultAt bytes (faults.Insn named fault)
     by_loops h count (inl e) = absurd (loops_no_slot _ _ _ named fault e)
     by_loops h count (inr p) = by_slots h p.0 count (came_from (slots_reading h.slots 0 false (drop (16 + 8 * h.loops) bytes)) _ (faults.Insn named fault) p.2)
 
-    by_length : (h : Header) (b : Bool) (r : Result Program ImageFault) → (r ≡ Err (faults.Insn named fault) → IsFaultAt bytes (faults.Insn named fault)) → (if b then r else Err faults.Length) ≡ Err (faults.Insn named fault) → IsFaultAt bytes (faults.Insn named fault)
+    by_length : (h : ImageHeader) (b : Bool) (r : Result Program ImageFault) → (r ≡ Err (faults.Insn named fault) → IsFaultAt bytes (faults.Insn named fault)) → (if b then r else Err faults.Length) ≡ Err (faults.Insn named fault) → IsFaultAt bytes (faults.Insn named fault)
     by_length h true r k e = k e
     by_length h false r k e = cc
 
-    by_header : (header_reading bytes ≡ Err (faults.Insn named fault)) ⊎ ((h : Header) × (header_reading bytes ≡ Ok h) × (rest_of bytes h ≡ Err (faults.Insn named fault))) → IsFaultAt bytes (faults.Insn named fault)
+    by_header : (header_reading bytes ≡ Err (faults.Insn named fault)) ⊎ ((h : ImageHeader) × (header_reading bytes ≡ Ok h) × (rest_of bytes h ≡ Err (faults.Insn named fault))) → IsFaultAt bytes (faults.Insn named fault)
     by_header (inl e) = absurd (header_no_slot bytes named fault e)
     by_header (inr p) = by_length p.0 _ _ (λ e. by_loops p.0 (header_loops bytes p.0 p.1) (came_from (loops_reading p.0.slots p.0.loops (drop 16 (take (16 + 8 * p.0.loops) bytes))) _ (faults.Insn named fault) e)) p.2
 

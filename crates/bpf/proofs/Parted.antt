@@ -6,7 +6,7 @@ use Rattle.std.specs.List.{flat_map}
 use Rattle.std.proofs.lemmas.Bool.{and_parts}
 use Rattle.bpf_insn.specs.declared.insn.Insn.{Insn}
 use Rattle.bpf_insn.specs.Spelling.{IsInsn, second_immediate}
-use Rattle.bpf.specs.declared.header.Header.{Header}
+use Rattle.bpf.specs.declared.header.ImageHeader.{ImageHeader}
 use Rattle.bpf.specs.declared.loops.Loop.{Loop}
 use Rattle.bpf.specs.declared.version.Version.{Version}
 use Rattle.bpf.specs.declared.fault.ImageFault.{ImageFault}
@@ -14,7 +14,7 @@ use Rattle.bpf.specs.declared.fault.ImageFault.TheVariants as faults
 use Rattle.bpf.specs.Program.{program, AreLoops, AreSlots, IsBudget, IsLoop, IsProgram, IsSlotCount}
 use Rattle.bpf.specs.Reading.{are_loops, is_budget, is_count, is_loop}
 use Rattle.bpf.proofs.Again.{test_again}
-use Rattle.bpf.specs.Parts.{header_of, parts_fault, placed_slots, second_slots, unless}
+use Rattle.bpf.specs.Parts.{image_header_of, parts_fault, placed_slots, second_slots, unless}
 
 -- ---- the slots
 
@@ -48,7 +48,7 @@ long (i ∷ is) =
 -- ---- the tests
 
 -- the header of these parts
-abbrev made : (version : Version) → List Insn → List Loop → (budget : ℕ) → Header
+abbrev made : (version : Version) → List Insn → List Loop → (budget : ℕ) → ImageHeader
 made version insns loops budget =
     record { version = version; loops = length loops; slots = length (flat_map placed_slots insns); budget = budget }
 
@@ -60,7 +60,7 @@ count_over : (a : Bool) (b c : Bool) → b ≡ false → (a && b && c) ≡ false
 count_over true b c h = rw h refl
 count_over false b c h = refl
 
-pub too_many : (version : Version) (insns : List Insn) (loops : List Loop) (budget : ℕ) → 512 < length insns → header_of version insns loops budget ≡ Err faults.Count
+pub too_many : (version : Version) (insns : List Insn) (loops : List Loop) (budget : ℕ) → 512 < length insns → image_header_of version insns loops budget ≡ Err faults.Count
 unfolding parts_fault
 too_many version insns loops budget h =
     let more : 512 < length (flat_map placed_slots insns) = omega (arith, h, long insns) in
@@ -72,7 +72,7 @@ no_fault : {X : Type 0} (f : Option ImageFault) (x y : X) → Ok x ≡ unless f 
 no_fault None x y h = refl
 no_fault (Some e) x y h = cc
 
-header_made : (version : Version) (insns : List Insn) (loops : List Loop) (budget : ℕ) (h : Header) → Ok h ≡ header_of version insns loops budget → parts_fault (length (flat_map placed_slots insns)) loops budget ≡ None
+header_made : (version : Version) (insns : List Insn) (loops : List Loop) (budget : ℕ) (h : ImageHeader) → Ok h ≡ image_header_of version insns loops budget → parts_fault (length (flat_map placed_slots insns)) loops budget ≡ None
 header_made version insns loops budget h e =
     no_fault (parts_fault (length (flat_map placed_slots insns)) loops budget) h (made version insns loops budget) e
 
@@ -122,7 +122,7 @@ kept version budget loops slots h are =
     let counts = count_kept (length loops) (length slots) p.0 in
     record { budget = budget_kept budget q.0; slots = counts.1; few_loops = counts.0; loops = loops_kept (length slots) 0 loops r.0; code = are }
 
-pub parts_kept : (version : Version) (insns : List Insn) (given loops : List Loop) (budget : ℕ) (h : Header) (slots : List (Option Insn)) → Ok h ≡ header_of version insns given budget → loops ≡ given → slots ≡ flat_map placed_slots insns → AreSlots false slots → IsProgram (program version budget loops slots)
+pub parts_kept : (version : Version) (insns : List Insn) (given loops : List Loop) (budget : ℕ) (h : ImageHeader) (slots : List (Option Insn)) → Ok h ≡ image_header_of version insns given budget → loops ≡ given → slots ≡ flat_map placed_slots insns → AreSlots false slots → IsProgram (program version budget loops slots)
 parts_kept version insns given loops budget h slots made same is are =
     kept version budget loops slots (ap (λ (s : List (Option Insn)). parts_fault (length s) loops budget) is ∙ ap (λ (ls : List Loop). parts_fault (length (flat_map placed_slots insns)) ls budget) same ∙ header_made version insns given budget h made) are
 

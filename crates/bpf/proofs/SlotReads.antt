@@ -5,7 +5,7 @@ use Rattle.std.proofs.lemmas.List.{length-take-le}
 use Rattle.bpf_insn.specs.declared.insn.Insn.{Insn}
 use Rattle.bpf_insn.specs.declared.decoder.BadInsn.{BadInsn}
 use Rattle.bpf_insn.specs.Faults.{IsFault}
-use Rattle.bpf_insn.specs.Reading.{reading}
+use Rattle.bpf_insn.specs.Reading.{insn_reading}
 use Rattle.bpf_insn.specs.Spelling.{AreSlotBytes, Spells}
 use Rattle.bpf.specs.declared.fault.ImageFault.TheVariants as faults
 use Rattle.bpf.specs.Reading.{slot_result, slot_in, slot_reading}
@@ -13,7 +13,7 @@ use Rattle.bpf.proofs.Again.{IsRead}
 
 -- the law of `bpf_insn` that the proofs use: a fault that is in slots is the one that is read
 abbrev pub IsNamed : Type 0
-IsNamed = (bytes : List ℕ) (next : Option (List ℕ)) (e : BadInsn) → AreSlotBytes bytes → IfSome next AreSlotBytes → IsFault bytes next e → reading bytes next ≡ Err e
+IsNamed = (bytes : List ℕ) (next : Option (List ℕ)) (e : BadInsn) → AreSlotBytes bytes → IfSome next AreSlotBytes → IsFault bytes next e → insn_reading bytes next ≡ Err e
 
 below_take : (k : ℕ) (xs : List ℕ) → ((i : ℕ) → slice_index xs i < 256) → (i : ℕ) → slice_index (take k xs) i < 256
 below_take zero xs h i = lit< tt

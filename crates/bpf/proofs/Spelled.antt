@@ -6,7 +6,7 @@ use Rattle.std.specs.List.{flat_map}
 use Rattle.std.specs.Option.{option_map}
 use Rattle.std.proofs.lemmas.List.Concat.{flat_map-append}
 use Rattle.bpf_insn.specs.declared.insn.Insn.{Insn}
-use Rattle.bpf_insn.specs.Spelling.{second_immediate, second_fields, bytes_of, first_bytes}
+use Rattle.bpf_insn.specs.Spelling.{second_immediate, second_fields, slot_bytes_of, first_bytes}
 use Rattle.bpf.specs.Program.{AreSlots, slot_bytes}
 use Rattle.bpf.specs.Reading.{IsSlot, begins_two, slot_in}
 
@@ -32,7 +32,7 @@ in_slot bytes s h = by_test (nat_lt (length bytes) 8) refl h
     by_test false e h = (cc, grind (arith, nat_tests))
 
 -- an instruction's bytes, by whether it has a second slot
-two_parts : (z : Option ℤ) (rest first : List ℕ) → take 8 rest ≡ first → IfSome (option_map bytes_of (second_fields z)) (λ s. slot_in (drop 8 rest) ≡ Some s) → rest ≡ (first ++ unwrap_or (option_map bytes_of (second_fields z)) []) ++ skip (is_some z) (drop 8 rest)
+two_parts : (z : Option ℤ) (rest first : List ℕ) → take 8 rest ≡ first → IfSome (option_map slot_bytes_of (second_fields z)) (λ s. slot_in (drop 8 rest) ≡ Some s) → rest ≡ (first ++ unwrap_or (option_map slot_bytes_of (second_fields z)) []) ++ skip (is_some z) (drop 8 rest)
 two_parts None rest first h k = rw (append-nil first) (front_and_rest rest first (drop 8 rest) h refl)
 two_parts (Some z) rest first h k =
     let second = (in_slot (drop 8 rest) _ k).0 in
@@ -59,7 +59,7 @@ pub slot_extends : (xs : List (Option Insn)) (second two : Bool) (rest : List �
 slot_extends xs second two rest x slot h before ys are =
     rw (append_assoc xs (x ∷ []) ys) (before (x ∷ ys) (one_more second two rest x ys slot h are))
 
-second_there : (z : Option ℤ) (rest : List ℕ) → IfSome (option_map bytes_of (second_fields z)) (λ s. slot_in (drop 8 rest) ≡ Some s) → is_some z ≡ true → 8 ≤ length (drop 8 rest)
+second_there : (z : Option ℤ) (rest : List ℕ) → IfSome (option_map slot_bytes_of (second_fields z)) (λ s. slot_in (drop 8 rest) ≡ Some s) → is_some z ≡ true → 8 ≤ length (drop 8 rest)
 second_there None rest k h = cc
 second_there (Some z) rest k h = (in_slot (drop 8 rest) _ k).1
 

@@ -5,7 +5,7 @@ use Rattle.std.proofs.Math.Seq.{drop-cons}
 use Rattle.std.proofs.Math.Nat.{mul_assoc}
 use Rattle.bpf_insn.specs.declared.insn.Insn.{Insn}
 use Rattle.bpf.specs.declared.loops.Loop.{Loop}
-use Rattle.bpf.specs.Weight.{passes_of, times_at, part_of, weight_from, saturated_weight}
+use Rattle.bpf.specs.Weight.{passes_of, times_at, weight_part_of, weight_from, saturated_weight}
 
 -- saturating a factor first changes nothing
 pub saturated-mul : (a r : ℕ) → saturated_weight (saturated_weight a * r) ≡ saturated_weight (a * r)
@@ -37,14 +37,14 @@ times_step t loops i slot x total lt item so_far =
     let three : t * passes_of x slot * times_at (drop (suc i) loops) slot ≡ t * (passes_of x slot * times_at (drop (suc i) loops) slot) = mul_assoc t (passes_of x slot) _ in
     rw add-one (two ∙ ap saturated_weight three ∙ sym one ∙ so_far)
 
-pub weight_step : (w : ℕ) (loops : List Loop) (slots : List (Option Insn)) (i : ℕ) (x : Option Insn) (total : ℕ) → i < length slots → get_or slots i x ≡ x → saturated_weight (w + weight_from loops i (drop i slots)) ≡ total → saturated_weight (saturated_weight (w + saturated_weight (part_of loops i x)) + weight_from loops (i + 1) (drop (i + 1) slots)) ≡ total
+pub weight_step : (w : ℕ) (loops : List Loop) (slots : List (Option Insn)) (i : ℕ) (x : Option Insn) (total : ℕ) → i < length slots → get_or slots i x ≡ x → saturated_weight (w + weight_from loops i (drop i slots)) ≡ total → saturated_weight (saturated_weight (w + saturated_weight (weight_part_of loops i x)) + weight_from loops (i + 1) (drop (i + 1) slots)) ≡ total
 unfolding weight_from
 weight_step w loops slots i x total lt item so_far =
     let cut : drop i slots ≡ x ∷ drop (suc i) slots = drop-cons slots i x lt ∙ ap (λ (y : Option Insn). y ∷ drop (suc i) slots) item in
-    let one : saturated_weight (w + weight_from loops i (drop i slots)) ≡ saturated_weight (w + (part_of loops i x + weight_from loops (i + 1) (drop (suc i) slots))) = rw cut refl in
-    let two : saturated_weight (saturated_weight (w + saturated_weight (part_of loops i x)) + weight_from loops (i + 1) (drop (suc i) slots)) ≡ saturated_weight (w + (part_of loops i x + weight_from loops (i + 1) (drop (suc i) slots))) = saturated-add_both w (part_of loops i x) _ in
+    let one : saturated_weight (w + weight_from loops i (drop i slots)) ≡ saturated_weight (w + (weight_part_of loops i x + weight_from loops (i + 1) (drop (suc i) slots))) = rw cut refl in
+    let two : saturated_weight (saturated_weight (w + saturated_weight (weight_part_of loops i x)) + weight_from loops (i + 1) (drop (suc i) slots)) ≡ saturated_weight (w + (weight_part_of loops i x + weight_from loops (i + 1) (drop (suc i) slots))) = saturated-add_both w (weight_part_of loops i x) _ in
     let next : drop (i + 1) slots ≡ drop (suc i) slots = ap (λ (k : ℕ). drop k slots) (add-one i) in
-    ap (λ (d : List (Option Insn)). saturated_weight (saturated_weight (w + saturated_weight (part_of loops i x)) + weight_from loops (i + 1) d)) next ∙ two ∙ sym one ∙ so_far
+    ap (λ (d : List (Option Insn)). saturated_weight (saturated_weight (w + saturated_weight (weight_part_of loops i x)) + weight_from loops (i + 1) d)) next ∙ two ∙ sym one ∙ so_far
 
 pub drop_end : {X : Type 0} (xs : List X) (i : ℕ) → length xs ≤ i → drop i xs ≡ []
 drop_end [] zero h = refl

@@ -4,7 +4,7 @@ use Rattle.std.proofs.lemmas.Bool.Decides.{nat_tests}
 use Rattle.std.proofs.lemmas.Nat.{from_le_bytes-to_le_bytes_4}
 use Rattle.std.specs.List.{flat_map}
 use Rattle.bpf_insn.specs.declared.insn.Insn.{Insn}
-use Rattle.bpf.specs.declared.header.Header.{Header}
+use Rattle.bpf.specs.declared.header.ImageHeader.{ImageHeader}
 use Rattle.bpf.specs.declared.loops.Loop.{Loop}
 use Rattle.bpf.specs.declared.version.Version.{Version}
 use Rattle.bpf.specs.declared.version.Version.TheVariants.{One, Two}
@@ -95,7 +95,7 @@ one_program law p q is_p is_q same =
     cc
 
 -- the header before those bytes
-abbrev made : Program → Header
+abbrev made : Program → ImageHeader
 made p = record { version = p.version; loops = length p.loops; slots = length p.slots; budget = p.budget }
 
 header_seen : (version : Version) (budget : ℕ) (loops : List Loop) (slots : List (Option Insn)) (after : List ℕ) → IsProgram (program version budget loops slots) → header_reading (image_bytes (program version budget loops slots) ++ after) ≡ Ok (made (program version budget loops slots))
@@ -115,8 +115,8 @@ pub apart : IsRead → (p q : Program) (after more : List ℕ) → IsProgram p �
 apart law p q after more is_p is_q e =
     let heads : Ok (made p) ≡ Ok (made q) = sym (header_in p after is_p) ∙ ap header_reading e ∙ header_in q more is_q in
     let head : made p ≡ made q = cc in
-    let few : length p.loops ≡ length q.loops = ap (λ (h : Header). h.loops) head in
-    let many : length p.slots ≡ length q.slots = ap (λ (h : Header). h.slots) head in
+    let few : length p.loops ≡ length q.loops = ap (λ (h : ImageHeader). h.loops) head in
+    let many : length p.slots ≡ length q.slots = ap (λ (h : ImageHeader). h.slots) head in
     let long : length (image_bytes q) ≡ length (image_bytes p) = omega (arith, image_length p is_p, image_length q is_q, few, many) in
     let same : image_bytes p ≡ image_bytes q =
     sym (take_front (image_bytes p) after (length (image_bytes p)) refl)

@@ -4,7 +4,7 @@ use Rattle.std.specs.Prelude.{Result, Ok, Err}
 use Rattle.std.specs.List.{flat_map}
 use Rattle.bpf_insn.specs.declared.insn.Insn.{Insn}
 use Rattle.bpf_insn.specs.Spelling.{second_immediate}
-use Rattle.bpf.specs.declared.header.Header.{Header}
+use Rattle.bpf.specs.declared.header.ImageHeader.{ImageHeader}
 use Rattle.bpf.specs.declared.loops.Loop.{Loop}
 use Rattle.bpf.specs.declared.version.Version.{Version}
 use Rattle.bpf.specs.declared.fault.ImageFault.{ImageFault}
@@ -40,8 +40,8 @@ unless None x = Ok x
 unless (Some fault) x = Err fault
 
 -- the header of this version, these instructions, loops and budget, or the first fault
-abbrev pub header_of : (version : Version) → List Insn → List Loop → (budget : ℕ) → Result Header ImageFault
-header_of version insns loops budget =
+abbrev pub image_header_of : (version : Version) → List Insn → List Loop → (budget : ℕ) → Result ImageHeader ImageFault
+image_header_of version insns loops budget =
     unless (parts_fault (length (flat_map placed_slots insns)) loops budget)
     (record { version = version; loops = length loops; slots = length (flat_map placed_slots insns); budget = budget })
 

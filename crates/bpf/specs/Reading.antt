@@ -7,8 +7,8 @@ use Rattle.bpf_insn.specs.declared.insn.Insn.{Insn}
 use Rattle.bpf_insn.specs.declared.decoder.BadInsn.{BadInsn}
 use Rattle.bpf_insn.specs.Faults.{IsFault}
 use Rattle.bpf_insn.specs.Spelling.{second_immediate, Spells}
-use Rattle.bpf_insn.specs.Reading.{reading}
-use Rattle.bpf.specs.declared.header.Header.{Header}
+use Rattle.bpf_insn.specs.Reading.{insn_reading}
+use Rattle.bpf.specs.declared.header.ImageHeader.{ImageHeader}
 use Rattle.bpf.specs.declared.header.TheConstants.{MAX_BUDGET, MAX_LOOPS, MAX_SLOTS}
 use Rattle.bpf.specs.declared.loops.TheConstants.{MAX_BOUND}
 use Rattle.bpf.specs.declared.loops.Loop.{Loop}
@@ -49,7 +49,7 @@ abbrev pub is_budget : ℕ → Bool
 is_budget budget = nat_le 1 budget && nat_le budget MAX_BUDGET
 
 -- the header of this version, these counts, this reserved word and this budget
-abbrev pub declared_header : (version : Version) (loops slots reserved budget : ℕ) → Result Header ImageFault
+abbrev pub declared_header : (version : Version) (loops slots reserved budget : ℕ) → Result ImageHeader ImageFault
 declared_header version loops slots reserved budget =
     if is_count loops slots reserved
     then (if is_budget budget
@@ -58,7 +58,7 @@ declared_header version loops slots reserved budget =
     else Err faults.Count
 
 -- the counts and the budget, after a version
-unfoldable pub counts_reading : Version → List ℕ → Result Header ImageFault
+unfoldable pub counts_reading : Version → List ℕ → Result ImageHeader ImageFault
 counts_reading version bytes =
     declared_header version (slice_index bytes 5) (half_at 6 bytes) (word_at 12 bytes) (word_at 8 bytes)
 
@@ -73,7 +73,7 @@ version_reading bytes =
     if nat_lt (length bytes) 5 then Err faults.Version else known_version (version_of (slice_index bytes 4))
 
 -- the version, the counts and the budget of an image, or the first fault of its header
-unfoldable pub header_reading : List ℕ → Result Header ImageFault
+unfoldable pub header_reading : List ℕ → Result ImageHeader ImageFault
 header_reading bytes =
     if starts_with nat_eq bytes magic
     then (version_reading bytes >>= (λ version.
@@ -125,7 +125,7 @@ slot_result slot (Err fault) = Err (faults.Insn slot fault)
 -- a slot, if it is known whether it is the second of an instruction
 unfoldable pub slot_reading : (slot : ℕ) (second : Bool) → List ℕ → Result (Option Insn) ImageFault
 slot_reading slot true bytes = Ok None
-slot_reading slot false bytes = slot_result slot (reading (take 8 bytes) (slot_in (drop 8 bytes)))
+slot_reading slot false bytes = slot_result slot (insn_reading (take 8 bytes) (slot_in (drop 8 bytes)))
 
 -- whether an instruction of two slots begins there
 abbrev pub begins_two : Option Insn → Bool
@@ -153,27 +153,27 @@ image_reading bytes =
 -- ---- what else contracts and proofs say
 
 -- reading gives this fault, unless memory was refused
-abbrev pub Fails : {Y : Type 0} → ImageFault → Result Y ImageFault → Type 0
-Fails faults.Memory read = Unit {0}
-Fails faults.Magic read = read ≡ Err faults.Magic
-Fails faults.Version read = read ≡ Err faults.Version
-Fails faults.Length read = read ≡ Err faults.Length
-Fails faults.Count read = read ≡ Err faults.Count
-Fails faults.Budget read = read ≡ Err faults.Budget
-Fails faults.Loop read = read ≡ Err faults.Loop
-Fails (faults.Insn slot fault) read = read ≡ Err (faults.Insn slot fault)
+abbrev pub FailsReading : {Y : Type 0} → ImageFault → Result Y ImageFault → Type 0
+FailsReading faults.Memory read = Unit {0}
+FailsReading faults.Magic read = read ≡ Err faults.Magic
+FailsReading faults.Version read = read ≡ Err faults.Version
+FailsReading faults.Length read = read ≡ Err faults.Length
+FailsReading faults.Count read = read ≡ Err faults.Count
+FailsReading faults.Budget read = read ≡ Err faults.Budget
+FailsReading faults.Loop read = read ≡ Err faults.Loop
+FailsReading (faults.Insn slot fault) read = read ≡ Err (faults.Insn slot fault)
 
 -- what a function returned, seen by `view`, is what reading gives, unless memory was refused
 abbrev pub Gives : {X Y : Type 0} → (X → Y) → Result X ImageFault → Result Y ImageFault → Type 0
 Gives view (Ok x) read = read ≡ Ok (view x)
-Gives view (Err e) read = Fails e read
+Gives view (Err e) read = FailsReading e read
 
 -- the counts and the budget of a header are in the limits of the format
-abbrev pub HasLimits : Header → Type 0
+abbrev pub HasLimits : ImageHeader → Type 0
 HasLimits h = (h.loops ≤ MAX_LOOPS) × IsSlotCount h.slots × IsBudget h.budget
 
 -- the bytes of a header
-abbrev pub bytes_of_header : Header → List ℕ
+abbrev pub bytes_of_header : ImageHeader → List ℕ
 bytes_of_header h = header_bytes h.version h.loops h.slots h.budget
 
 -- what the bytes at a slot spell

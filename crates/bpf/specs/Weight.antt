@@ -17,14 +17,14 @@ times_at [] slot = 1
 times_at (l ∷ ls) slot = passes_of l slot * times_at ls slot
 
 -- the same for an instruction at the slot, and nothing for a second slot
-abbrev pub part_of : List Loop → ℕ → Option Insn → ℕ
-part_of loops slot None = 0
-part_of loops slot (Some insn) = times_at loops slot
+abbrev pub weight_part_of : List Loop → ℕ → Option Insn → ℕ
+weight_part_of loops slot None = 0
+weight_part_of loops slot (Some insn) = times_at loops slot
 
 -- the sum of that over the slots from one
 unfoldable pub weight_from : List Loop → ℕ → List (Option Insn) → ℕ
 weight_from loops slot [] = 0
-weight_from loops slot (x ∷ xs) = part_of loops slot x + weight_from loops (slot + 1) xs
+weight_from loops slot (x ∷ xs) = weight_part_of loops slot x + weight_from loops (slot + 1) xs
 
 -- the weight of a program: the sum over its instructions of the product of the bounds of the loops that hold
 -- each

@@ -18,14 +18,14 @@ pub const MAX_BUDGET: u32 = 65_536;
 
 /// What an image declares in its first 16 bytes, in the limits of the format.
 #[derive(Clone, Copy)]
-pub struct Header {
+pub struct ImageHeader {
     pub version: Version,
     pub loops: u8,
     pub slots: u16,
     pub budget: u32,
 }
 
-impl Header {
+impl ImageHeader {
     /// The header of this version, these counts and this budget.
     ///
     /// # Errors
@@ -37,7 +37,7 @@ impl Header {
         slots: usize,
         reserved: u32,
         budget: u32,
-    ) -> Result<Header, ImageFault>
+    ) -> Result<ImageHeader, ImageFault>
         ensures value { result ≡ declared_header version loops slots reserved budget }
         ensures limits { IfOk result HasLimits }
     {
@@ -47,7 +47,7 @@ impl Header {
         if !is_budget(budget) {
             return Err(ImageFault::Budget);
         }
-        Ok(Header {
+        Ok(ImageHeader {
             version,
             loops: loops as u8,
             slots: slots as u16,
@@ -62,7 +62,7 @@ impl Header {
 ///
 /// The first of `Magic`, `Version`, `Length`, `Count` and `Budget`. `Length` if there are fewer than 16 bytes.
 #[tactic(auto, unfolding(crate::specs::Reading::header_reading))]
-pub fn read_header(bytes: &[u8]) -> Result<Header, ImageFault>
+pub fn read_header(bytes: &[u8]) -> Result<ImageHeader, ImageFault>
     ensures value { result ≡ header_reading bytes.now }
     ensures limits { IfOk result HasLimits }
     ensures spelled { IfOk result
@@ -91,7 +91,7 @@ fn read_version(bytes: &[u8]) -> Result<Version, ImageFault>
 }
 
 #[tactic(auto, unfolding(crate::specs::Reading::counts_reading))]
-fn read_counts(version: Version, bytes: &[u8]) -> Result<Header, ImageFault>
+fn read_counts(version: Version, bytes: &[u8]) -> Result<ImageHeader, ImageFault>
     requires length { 16 ≤ length bytes.now }
     requires version { slice_index bytes.now 4 ≡ version_number version }
     ensures value { result ≡ counts_reading version bytes.now }
@@ -103,7 +103,7 @@ fn read_counts(version: Version, bytes: &[u8]) -> Result<Header, ImageFault>
     let slots = u16::from_le_bytes([bytes[6], bytes[7]]);
     let budget = u32::from_le_bytes([bytes[8], bytes[9], bytes[10], bytes[11]]);
     let reserved = u32::from_le_bytes([bytes[12], bytes[13], bytes[14], bytes[15]]);
-    Header::new(
+    ImageHeader::new(
         version,
         usize::from(loops),
         usize::from(slots),
@@ -128,13 +128,13 @@ pub fn is_budget(budget: u32) -> bool
 }
 
 /// The bytes of the header.
-pub fn header_bytes(header: &Header) -> [u8; 16]
+pub fn header_bytes(header: &ImageHeader) -> [u8; 16]
     ensures { result ≡ bytes_of_header header.now }
 {
     let [m0, m1, m2, m3] = MAGIC;
     let [s0, s1] = header.slots.to_le_bytes();
     let [b0, b1, b2, b3] = header.budget.to_le_bytes();
-    let Header { version, loops, .. } = *header;
+    let ImageHeader { version, loops, .. } = *header;
     let version = version.number();
     [
         m0, m1, m2, m3, version, loops, s0, s1, b0, b1, b2, b3, 0, 0, 0, 0,

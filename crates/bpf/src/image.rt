@@ -7,10 +7,10 @@ ghost use Rattle.bpf.specs.Weight.{saturated_weight, weight_of};
 ghost use Rattle.bpf.specs.Reading.{Gives, IsFaultAt, ReadsWhatSpells, image_reading};
 
 use crate::fault::ImageFault;
-use crate::header::{Header, header_bytes, read_header};
+use crate::header::{ImageHeader, header_bytes, read_header};
 use crate::laws::image_laws;
 use crate::loops::{Loop, read_loops, write_loops};
-use crate::parts::{header_of, place_insns};
+use crate::parts::{image_header_of, place_insns};
 use crate::slots::{read_slots, write_slots};
 use crate::version::Version;
 use crate::weight::weight;
@@ -96,7 +96,7 @@ impl Image {
         ensures exact { Gives (λ image. image) result
             (parts_reading version insns.now loops.now budget) }
     {
-        let header = header_of(version, insns, loops, budget)?;
+        let header = image_header_of(version, insns, loops, budget)?;
         let loops = Vec::from_slice(alloc, loops)?;
         let slots = place_insns(alloc, insns, header.slots)?;
         Ok(Image::of_parts(version, budget, loops, slots))
@@ -140,7 +140,7 @@ impl Image {
     {
         let len = 16 + 8 * self.loops.len() + 8 * self.slots.len();
         let mut bytes = Vec::with_capacity(*self.slots.allocator(), len)?;
-        let header = Header {
+        let header = ImageHeader {
             version: self.version,
             loops: self.loops.len() as u8,
             slots: self.slots(),

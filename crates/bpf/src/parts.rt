@@ -5,10 +5,10 @@ ghost use Rattle.std.specs.List.{flat_map};
 ghost use Rattle.bpf_insn.specs.Spelling.{IsInsn};
 ghost use Rattle.bpf.specs.Program.{AreSlots};
 ghost use Rattle.bpf.specs.declared.header.TheConstants.{MAX_SLOTS};
-ghost use Rattle.bpf.specs.Parts.{header_of, placed_slots};
+ghost use Rattle.bpf.specs.Parts.{image_header_of, placed_slots};
 
 use crate::fault::ImageFault;
-use crate::header::{Header, MAX_SLOTS};
+use crate::header::{ImageHeader, MAX_SLOTS};
 use crate::loops::{Loop, are_loops};
 use crate::version::Version;
 use bpf_insn::Insn;
@@ -20,19 +20,19 @@ use std::alloc::{AllocError, Global};
 ///
 /// The first of `Count`, `Budget` and `Loop`.
 #[tactic(auto, unfolding(crate::specs::Parts::parts_fault))]
-pub fn header_of(
+pub fn image_header_of(
     version: Version,
     insns: &[Insn],
     loops: &[Loop],
     budget: u32,
-) -> Result<Header, ImageFault>
-    ensures { result ≡ header_of version insns.now loops.now budget }
+) -> Result<ImageHeader, ImageFault>
+    ensures { result ≡ image_header_of version insns.now loops.now budget }
 {
     // Each instruction takes at least one slot. So the sum of at most 512 fits.
     if insns.len() > usize::from(MAX_SLOTS) {
         return Err(ImageFault::Count);
     }
-    let header = Header::new(version, loops.len(), count_slots(insns), 0, budget)?;
+    let header = ImageHeader::new(version, loops.len(), count_slots(insns), 0, budget)?;
     if are_loops(header.slots, loops) {
         Ok(header)
     } else {

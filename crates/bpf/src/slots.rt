@@ -5,7 +5,7 @@ ghost use Rattle.std.specs.Option.{option_copied};
 ghost use Rattle.std.specs.List.{flat_map};
 ghost use Rattle.bpf_insn.specs.Spelling.{spelling};
 ghost use Rattle.bpf.specs.Program.{SpellSlots, slot_bytes};
-ghost use Rattle.bpf.specs.Reading.{Fails, Gives, IsSlot, PushesSlot, begins_two, slot_in, slot_reading, slots_reading};
+ghost use Rattle.bpf.specs.Reading.{FailsReading, Gives, IsSlot, PushesSlot, begins_two, slot_in, slot_reading, slots_reading};
 
 use crate::fault::ImageFault;
 use bpf_insn::{Insn, decode, encode, spelling_laws};
@@ -44,7 +44,7 @@ fn push_slot(
     requires { 8 ≤ length bytes.now }
     ensures pushed { IfOk result
         (PushesSlot slots.old.items slots.new.items slot second bytes.now) }
-    ensures fails { IfErr result (λ e. Fails e (slot_reading slot second bytes.now)) }
+    ensures fails { IfErr result (λ e. FailsReading e (slot_reading slot second bytes.now)) }
 {
     if second {
         slots.push(None)?;

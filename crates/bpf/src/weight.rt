@@ -2,7 +2,7 @@
 
 ghost use Rattle.std.specs.Prelude.{◌≡◌, ◌≤◌, length};
 ghost use Rattle.bpf.specs.declared.header.TheConstants.{MAX_SLOTS};
-ghost use Rattle.bpf.specs.Weight.{part_of, passes_of, saturated_weight, times_at, weight_from};
+ghost use Rattle.bpf.specs.Weight.{weight_part_of, passes_of, saturated_weight, times_at, weight_from};
 
 use crate::loops::Loop;
 use bpf_insn::Insn;
@@ -24,7 +24,7 @@ pub fn weight(loops: &[Loop], slots: &[Option<Insn>]) -> u64
 
 /// The most times that a run performs an instruction at the slot, by the loops around it; 0 for a second slot.
 fn part(loops: &[Loop], slot: u16, insn: &Option<Insn>) -> u64
-    ensures { result ≡ saturated_weight (part_of loops.now slot insn.now) }
+    ensures { result ≡ saturated_weight (weight_part_of loops.now slot insn.now) }
 {
     match insn {
         Some(_) => times(loops, slot),

@@ -30,8 +30,8 @@ use Rattle.bpf_insn.specs.declared.decoder.BadInsn.TheVariants as faults
 use Rattle.bpf_insn.specs.Spelling.{fields, second_immediate, Spells}
 use Rattle.bpf_insn.specs.Faults.{opcode_of, uses_dst, uses_src, has_register_over, IsFault}
 use Rattle.bpf_parts.specs.Kinds.{swap_bits_of, wide_address, callee_of}
-use Rattle.bpf_insn.specs.Reading.{◌>>=◌, register_of, meant_of, wide_of, pair_of, load_of, store_of, arithmetic_of, negation_of, byte_swap_of, two_operands_of, move_of, jump_of, call_of, branch_of, comparison_of, has_fields, fields_in, reading_of, reading}
-use Rattle.bpf_insn.proofs.Spelled.{reading-spelled}
+use Rattle.bpf_insn.specs.Reading.{◌>>=◌, register_of, meant_of, wide_of, pair_of, load_of, store_of, arithmetic_of, negation_of, byte_swap_of, two_operands_of, move_of, jump_of, call_of, branch_of, comparison_of, has_fields, fields_in, reading_of, insn_reading}
+use Rattle.bpf_insn.proofs.Spelled.{insn_reading-spelled}
 
 -- no register is over 10, and if the instruction wants a second slot, it is there
 abbrev pub is_fine : Insn → ℕ → ℕ → Option Fields → Bool
@@ -315,7 +315,7 @@ fault_explained bytes next f r value first opcode only =
     fault_of bytes next r (value ∙ ap (λ (x : Fields). reading_of x (option_map fields_in next)) first) opcode only
 
 -- the fault of bytes that are read
-pub fault_read : (bytes : List ℕ) (next : Option (List ℕ)) (e : BadInsn) → slice_index bytes 0 < 256 → reading bytes next ≡ Err e → IsFault bytes next e
-unfolding reading
+pub fault_read : (bytes : List ℕ) (next : Option (List ℕ)) (e : BadInsn) → slice_index bytes 0 < 256 → insn_reading bytes next ≡ Err e → IsFault bytes next e
+unfolding insn_reading
 fault_read bytes next e opcode read =
-    fault_of bytes next (Err e) (sym read) opcode (λ i s. sym read ∙ reading-spelled bytes next i s)
+    fault_of bytes next (Err e) (sym read) opcode (λ i s. sym read ∙ insn_reading-spelled bytes next i s)

@@ -5,9 +5,9 @@ use Rattle.bpf_insn.specs.declared.insn.Insn.{Insn}
 use Rattle.bpf_insn.specs.declared.fields.Fields.{Fields}
 use Rattle.bpf_insn.specs.declared.decoder.BadInsn.{BadInsn}
 use Rattle.bpf_insn.specs.declared.decoder.BadInsn.TheVariants as faults
-use Rattle.bpf_insn.specs.Spelling.{first_bytes, second_immediate, bytes_of, AreSlotBytes, Spells}
+use Rattle.bpf_insn.specs.Spelling.{first_bytes, second_immediate, slot_bytes_of, AreSlotBytes, Spells}
 use Rattle.bpf_insn.specs.Faults.{opcode_of, has_register_over, IsFault}
-use Rattle.bpf_insn.specs.Reading.{◌>>=◌, meant_of, fields_in, has_fields, reading_of, reading}
+use Rattle.bpf_insn.specs.Reading.{◌>>=◌, meant_of, fields_in, has_fields, reading_of, insn_reading}
 use Rattle.bpf_insn.proofs.Explained.{explained, explains, fault_read, is_some-fields}
 use Rattle.bpf_insn.proofs.Read.{is_spelled}
 
@@ -70,7 +70,7 @@ has_none f g (inr p) none =
     by_test false never = refl
 
 first_of : (i : Insn) → slice_index (first_bytes i) 0 ≡ opcode_of i
-unfolding bytes_of
+unfolding slot_bytes_of
 first_of i = refl
 
 no_opcode : (bytes : List ℕ) (next : Option (List ℕ)) (r : Result Insn BadInsn) → ((i : Insn) → r ≡ Ok i → Spells bytes next i) → IfErr r (IsFault bytes next) → IsFault bytes next faults.Opcode → r ≡ Err faults.Opcode
@@ -81,7 +81,7 @@ no_opcode bytes next (Err faults.Register) spelled has none = absurd (none has.0
 no_opcode bytes next (Err faults.Half) spelled has none = absurd (none has.0 has.1)
 no_opcode bytes next (Err faults.Unused) spelled has none = absurd (none has.0 has.1)
 
-is_fault : (bytes : List ℕ) (next : Option (List ℕ)) (r : Result Insn BadInsn) → r ≡ reading bytes next → ((e : BadInsn) → reading bytes next ≡ Err e → IsFault bytes next e) → IfErr r (IsFault bytes next)
+is_fault : (bytes : List ℕ) (next : Option (List ℕ)) (r : Result Insn BadInsn) → r ≡ insn_reading bytes next → ((e : BadInsn) → insn_reading bytes next ≡ Err e → IsFault bytes next e) → IfErr r (IsFault bytes next)
 is_fault bytes next (Ok i) same h = tt
 is_fault bytes next (Err e) same h = h e (sym same)
 
@@ -89,11 +89,11 @@ no_next : (next : Option (List ℕ)) → next ≡ None → is_some (option_map f
 no_next None h = refl
 no_next (Some x) h = cc
 
-pub named_read : (bytes : List ℕ) (next : Option (List ℕ)) (e : BadInsn) → AreSlotBytes bytes → IfSome next AreSlotBytes → IsFault bytes next e → reading bytes next ≡ Err e
-unfolding reading
+pub named_read : (bytes : List ℕ) (next : Option (List ℕ)) (e : BadInsn) → AreSlotBytes bytes → IfSome next AreSlotBytes → IsFault bytes next e → insn_reading bytes next ≡ Err e
+unfolding insn_reading
 named_read bytes next faults.Opcode are after h =
-    no_opcode bytes next (reading bytes next) (λ i read. is_spelled bytes next i are after read)
-    (is_fault bytes next (reading bytes next) refl (λ e read. fault_read bytes next e (are.1 0) read)) h
+    no_opcode bytes next (insn_reading bytes next) (λ i read. is_spelled bytes next i are after read)
+    (is_fault bytes next (insn_reading bytes next) refl (λ e read. fault_read bytes next e (are.1 0) read)) h
 named_read bytes next faults.Register are after h =
     let f = fields_in bytes in
     let g = option_map fields_in next in

@@ -21,10 +21,10 @@ use Rattle.bpf_insn.specs.declared.fields.Fields.{Fields}
 use Rattle.bpf_insn.specs.declared.decoder.BadInsn.{BadInsn}
 use Rattle.bpf_insn.specs.declared.decoder.BadInsn.TheVariants as faults
 use Rattle.bpf_parts.specs.Kinds.{wide_address, extension_of}
-use Rattle.bpf_insn.specs.Spelling.{fields, first_fields, second_immediate, second_fields, bytes_of, AreSlotBytes, IsInsn, Spells}
+use Rattle.bpf_insn.specs.Spelling.{fields, first_fields, second_immediate, second_fields, slot_bytes_of, AreSlotBytes, IsInsn, Spells}
 use Rattle.bpf_parts.specs.Operands.{IsOperand}
-use Rattle.bpf_insn.specs.Reading.{◌>>=◌, register_of, operand_of, register_move, constant_of, meant_of, wide_of, pair_of, load_of, store_of, arithmetic_of, negation_of, byte_swap_of, two_operands_of, move_of, jump_of, call_of, branch_of, comparison_of, fields_in, same_fields, same_second, has_fields, reading_of, reading}
-use Rattle.bpf_insn.proofs.SlotBytes.{bytes_of-fields_in}
+use Rattle.bpf_insn.specs.Reading.{◌>>=◌, register_of, operand_of, register_move, constant_of, meant_of, wide_of, pair_of, load_of, store_of, arithmetic_of, negation_of, byte_swap_of, two_operands_of, move_of, jump_of, call_of, branch_of, comparison_of, fields_in, same_fields, same_second, has_fields, reading_of, insn_reading}
+use Rattle.bpf_insn.proofs.SlotBytes.{slot_bytes_of-fields_in}
 
 -- ---- the numbers of fields that were read
 
@@ -196,12 +196,12 @@ fields_same f g h =
     parts_same f.opcode g.opcode f.dst g.dst f.src g.src f.offset g.offset f.immediate g.immediate
     (numbers_same _ _ d.0) (numbers_same _ _ d.1) (numbers_same _ _ c.1) ((Decides-int_eq f.offset g.offset).0 b.1) ((Decides-int_eq f.immediate g.immediate).0 a.1)
 
-second_is : (second : Option ℤ) (next : Option (List ℕ)) → IfSome next AreSlotBytes → same_second second (option_map fields_in next) ≡ true → IfSome (option_map bytes_of (second_fields second)) (λ s. next ≡ Some s)
+second_is : (second : Option ℤ) (next : Option (List ℕ)) → IfSome next AreSlotBytes → same_second second (option_map fields_in next) ≡ true → IfSome (option_map slot_bytes_of (second_fields second)) (λ s. next ≡ Some s)
 second_is None next are same = tt
 second_is (Some z) None are same = cc
 second_is (Some z) (Some bytes) are same =
     let read = fields_same (fields_in bytes) (fields 0 0 0 (pos 0) z) same in
-    ap (λ (b : List ℕ). Some b) (sym (bytes_of-fields_in bytes are.0 are.1) ∙ ap bytes_of read)
+    ap (λ (b : List ℕ). Some b) (sym (slot_bytes_of-fields_in bytes are.0 are.1) ∙ ap slot_bytes_of read)
 
 own_fields : (f : Fields) (g : Option Fields) (r : Result Insn BadInsn) (i : Insn) → (r >>= (λ insn. if has_fields insn f g then Ok insn else Err faults.Unused)) ≡ Ok i → (r ≡ Ok i) × (has_fields i f g ≡ true)
 own_fields f g (Err e) i h = cc
@@ -211,8 +211,8 @@ own_fields f g (Ok x) i h = by_test (has_fields x f g) refl h
     by_test true e h = (h, let same : x ≡ i = cc h in rw same at e)
     by_test false e h = cc
 
-pub is_spelled : (bytes : List ℕ) (next : Option (List ℕ)) (i : Insn) → AreSlotBytes bytes → IfSome next AreSlotBytes → reading bytes next ≡ Ok i → Spells bytes next i
-unfolding reading reading_of
+pub is_spelled : (bytes : List ℕ) (next : Option (List ℕ)) (i : Insn) → AreSlotBytes bytes → IfSome next AreSlotBytes → insn_reading bytes next ≡ Ok i → Spells bytes next i
+unfolding insn_reading reading_of
 is_spelled bytes next i are after read =
     let f = fields_in bytes in
     let g = option_map fields_in next in
@@ -220,6 +220,6 @@ is_spelled bytes next i are after read =
     let tests = and_parts (same_fields (first_fields i) f) (same_second (second_immediate i) g) own.1 in
     record {
       is_insn = IfOk-at_ok IsInsn own.0 (meant_is f g (numbers_fit bytes are) (next_fit next after)).is;
-      first = sym (bytes_of-fields_in bytes are.0 are.1) ∙ ap bytes_of (sym (fields_same (first_fields i) f tests.0));
+      first = sym (slot_bytes_of-fields_in bytes are.0 are.1) ∙ ap slot_bytes_of (sym (fields_same (first_fields i) f tests.0));
       second = second_is (second_immediate i) next after tests.1;
     }

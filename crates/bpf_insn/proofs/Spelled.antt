@@ -10,9 +10,9 @@ use Rattle.bpf_insn.specs.declared.fields.Fields.{Fields}
 use Rattle.bpf_insn.specs.declared.insn.Insn.{Insn}
 use Rattle.bpf_insn.specs.declared.decoder.BadInsn.{BadInsn}
 use Rattle.bpf_insn.specs.declared.decoder.BadInsn.TheVariants as faults
-use Rattle.bpf_insn.specs.Spelling.{fields, first_fields, second_immediate, second_fields, bytes_of, HasSecond, HasSlots, IsInsn, Spells}
-use Rattle.bpf_insn.specs.Reading.{fields_in, same_fields, same_second, has_fields, reading_of, reading, meant_of}
-use Rattle.bpf_insn.proofs.SlotBytes.{fields_in-bytes_of}
+use Rattle.bpf_insn.specs.Spelling.{fields, first_fields, second_immediate, second_fields, slot_bytes_of, HasSecond, HasSlots, IsInsn, Spells}
+use Rattle.bpf_insn.specs.Reading.{fields_in, same_fields, same_second, has_fields, reading_of, insn_reading, meant_of}
+use Rattle.bpf_insn.proofs.SlotBytes.{fields_in-slot_bytes_of}
 use Rattle.bpf_insn.proofs.Meant.{means}
 use Rattle.bpf_insn.proofs.Fit.{fields_fit, second_fits}
 use Rattle.std.proofs.Math.Facts.{sfits_lit}
@@ -53,11 +53,11 @@ slots_same i f g immediate next is_first is_second same second =
 
 -- ---- the bytes of an instruction are read as it
 
-second_read : (second : Option ℤ) (next : Option (List ℕ)) → IfSome (option_map bytes_of (second_fields second)) (λ s. next ≡ Some s) → IfSome second (λ z. FitsSigned w32 z) → IfSome (second_fields second) (λ g. option_map fields_in next ≡ Some g)
+second_read : (second : Option ℤ) (next : Option (List ℕ)) → IfSome (option_map slot_bytes_of (second_fields second)) (λ s. next ≡ Some s) → IfSome second (λ z. FitsSigned w32 z) → IfSome (second_fields second) (λ g. option_map fields_in next ≡ Some g)
 second_read None next e fits = tt
 second_read (Some z) next e fits =
     ap (option_map fields_in) e
-    ∙ ap (λ (f : Fields). Some f) (fields_in-bytes_of (fields 0 0 0 (pos 0) z) (record { opcode = lit< tt; dst = lit< tt; src = lit< tt; offset = sfits_lit tt; immediate = fits }))
+    ∙ ap (λ (f : Fields). Some f) (fields_in-slot_bytes_of (fields 0 0 0 (pos 0) z) (record { opcode = lit< tt; dst = lit< tt; src = lit< tt; offset = sfits_lit tt; immediate = fits }))
 
 has_second : (second : Option ℤ) (g : Option Fields) → IfSome (second_fields second) (λ s. g ≡ Some s) → same_second second g ≡ true
 has_second None g e = refl
@@ -74,11 +74,11 @@ pub reading_of-own : (f : Fields) (g : Option Fields) (i : Insn) → meant_of f 
 unfolding reading_of
 reading_of-own f g i meant own = rw meant (if_own (has_fields i f g) i own)
 
-pub reading-spelled : (bytes : List ℕ) (next : Option (List ℕ)) (i : Insn) → Spells bytes next i → reading bytes next ≡ Ok i
-unfolding reading
-reading-spelled bytes next i s =
+pub insn_reading-spelled : (bytes : List ℕ) (next : Option (List ℕ)) (i : Insn) → Spells bytes next i → insn_reading bytes next ≡ Ok i
+unfolding insn_reading
+insn_reading-spelled bytes next i s =
     let first : fields_in bytes ≡ first_fields i =
-    ap fields_in s.first ∙ fields_in-bytes_of (first_fields i) (fields_fit i s.is_insn) in
+    ap fields_in s.first ∙ fields_in-slot_bytes_of (first_fields i) (fields_fit i s.is_insn) in
     let second = second_read (second_immediate i) next s.second (second_fits i s.is_insn) in
     ap (λ (f : Fields). reading_of f (option_map fields_in next)) first
     ∙ reading_of-own (first_fields i) (option_map fields_in next) i (means i (option_map fields_in next) s.is_insn second) (has_own i (option_map fields_in next) second)
@@ -86,11 +86,11 @@ reading-spelled bytes next i s =
 -- ---- the clauses of `decode`
 
 pub only_spelled : (bytes : List ℕ) (next : Option (List ℕ)) (f : Fields) (r : Result Insn BadInsn) (i : Insn) → r ≡ reading_of f (option_map fields_in next) → f ≡ fields_in bytes → Spells bytes next i → r ≡ Ok i
-unfolding reading
+unfolding insn_reading
 only_spelled bytes next f r i value first s =
-    value ∙ ap (λ (x : Fields). reading_of x (option_map fields_in next)) first ∙ reading-spelled bytes next i s
+    value ∙ ap (λ (x : Fields). reading_of x (option_map fields_in next)) first ∙ insn_reading-spelled bytes next i s
 
-pub found_spelled : (bytes : List ℕ) (next : Option (List ℕ)) (f : Fields) (r : Result Insn BadInsn) → IfOk r (λ i. IsInsn i) → IfOk r (λ i. HasSlots i f next) → bytes_of f ≡ bytes → IfOk r (Spells bytes next)
+pub found_spelled : (bytes : List ℕ) (next : Option (List ℕ)) (f : Fields) (r : Result Insn BadInsn) → IfOk r (λ i. IsInsn i) → IfOk r (λ i. HasSlots i f next) → slot_bytes_of f ≡ bytes → IfOk r (Spells bytes next)
 found_spelled bytes next f (Ok i) is_insn has first =
-    record { is_insn = is_insn; first = sym first ∙ ap bytes_of (sym has.first); second = has.second }
+    record { is_insn = is_insn; first = sym first ∙ ap slot_bytes_of (sym has.first); second = has.second }
 found_spelled bytes next f (Err e) is_insn has first = tt

@@ -47,17 +47,17 @@ uses_dst (LoadMap dst index) = true
 uses_dst (LoadAddress dst address) = true
 
 -- whether an operand is a register
-abbrev pub is_register : Operand → Bool
-is_register (FromRegister register) = true
-is_register (Immediate value) = false
+abbrev pub is_register_operand : Operand → Bool
+is_register_operand (FromRegister register) = true
+is_register_operand (Immediate value) = false
 
 -- whether it has a source or base register in the source field
 abbrev pub uses_src : Insn → Bool
-uses_src (Alu op width dst src) = is_register src
+uses_src (Alu op width dst src) = is_register_operand src
 uses_src (MoveSigned extension dst src) = true
 uses_src (Load size dst place) = true
-uses_src (Store size place src) = is_register src
-uses_src (Jump comparison offset) = is_register comparison.src
+uses_src (Store size place src) = is_register_operand src
+uses_src (Jump comparison offset) = is_register_operand comparison.src
 uses_src (Negate width dst) = false
 uses_src (ByteSwap swap bits dst) = false
 uses_src (Goto distance) = false

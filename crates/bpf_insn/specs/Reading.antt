@@ -190,5 +190,5 @@ unfoldable pub reading_of : Fields → Option Fields → Result Insn BadInsn
 reading_of f next = meant_of f next >>= (λ insn. if has_fields insn f next then Ok insn else Err faults.Unused)
 
 -- the instruction that the bytes spell, or the first fault; the next slot is read only if it is wanted
-unfoldable pub reading : List ℕ → Option (List ℕ) → Result Insn BadInsn
-reading bytes next = reading_of (fields_in bytes) (next_fields next)
+unfoldable pub insn_reading : List ℕ → Option (List ℕ) → Result Insn BadInsn
+insn_reading bytes next = reading_of (fields_in bytes) (next_fields next)

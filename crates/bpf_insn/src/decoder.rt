@@ -103,7 +103,7 @@ impl BadInsn {
 /// # Errors
 ///
 /// The first fault of `Opcode`, `Register`, `Half` and `Unused`.
-#[tactic(auto, unfolding(crate::specs::Reading::reading))]
+#[tactic(auto, unfolding(crate::specs::Reading::insn_reading))]
 pub fn decode(bytes: &[u8; 8], next: Option<&[u8; 8]>) -> Result<Insn, BadInsn>
     // The bytes that were decoded are those that spell the instruction, and bytes that spell an instruction are
     // decoded as it.

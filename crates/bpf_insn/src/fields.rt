@@ -1,7 +1,7 @@
 //! The fields of a slot.
 
 ghost use Rattle.std.specs.Prelude.{◌≡◌, ◌<◌};
-ghost use Rattle.bpf_insn.specs.Spelling.{RegistersFit, fields, bytes_of};
+ghost use Rattle.bpf_insn.specs.Spelling.{RegistersFit, fields, slot_bytes_of};
 ghost use Rattle.bpf_insn.specs.Reading.{fields_in};
 
 /// The fields of a slot of 8 bytes (RFC 9669, section 3.1).
@@ -34,7 +34,7 @@ impl Fields {
     /// bytes have the lowest byte first.
     pub fn read(bytes: &[u8; 8]) -> Fields
         ensures value { result ≡ fields_in bytes.now }
-        ensures bytes { bytes_of result ≡ bytes.now }
+        ensures bytes { slot_bytes_of result ≡ bytes.now }
     {
         let [opcode, registers, o0, o1, i0, i1, i2, i3] = *bytes;
         Fields {
@@ -47,10 +47,10 @@ impl Fields {
     }
 
     /// The bytes of these fields.
-    #[tactic(auto, unfolding(crate::specs::Spelling::bytes_of))]
+    #[tactic(auto, unfolding(crate::specs::Spelling::slot_bytes_of))]
     pub fn bytes(&self) -> [u8; 8]
         requires { RegistersFit self.now }
-        ensures { result ≡ bytes_of self.now }
+        ensures { result ≡ slot_bytes_of self.now }
     {
         let [o0, o1] = self.offset.to_le_bytes();
         let [i0, i1, i2, i3] = self.immediate.to_le_bytes();

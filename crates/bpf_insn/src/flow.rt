@@ -2,7 +2,7 @@
 
 ghost use Rattle.std.specs.Prelude.{◌≡◌, ◌≤◌, ℕ};
 ghost use Rattle.bpf_insn.specs.Bits.{is_bit};
-ghost use Rattle.bpf_insn.specs.Flow.{accessed_base, flow_of, is_clobbered, is_named, is_written, written_register};
+ghost use Rattle.bpf_insn.specs.Flow.{accessed_base, flow_of, is_clobbered, is_register_named, is_written, written_register};
 
 use crate::insn::Insn;
 use bpf_parts::{Callee, Register};
@@ -89,7 +89,7 @@ impl Insn {
     pub fn writes(&self, register: Register) -> bool
         ensures { result ≡ is_written self.now register }
     {
-        is_named(self.written(), register) || self.flow().clobbered() >> register.number() & 1 == 1
+        is_register_named(self.written(), register) || self.flow().clobbered() >> register.number() & 1 == 1
     }
 
     /// The base register of a load or a store, through which it accesses memory.
@@ -114,8 +114,8 @@ impl Insn {
 }
 
 /// Whether the register is the named one, if one is named.
-fn is_named(named: Option<Register>, register: Register) -> bool
-    ensures { result ≡ is_named named register }
+fn is_register_named(named: Option<Register>, register: Register) -> bool
+    ensures { result ≡ is_register_named named register }
 {
     match named {
         Some(named) => named.number() == register.number(),

@@ -16,22 +16,22 @@ use Rattle.absdom.specs.declared.cause.Cause.{Cause}
 use Rattle.absdom.specs.declared.kinds.AbsKind.{AbsKind}
 use Rattle.absdom.specs.declared.kinds.AbsKind.TheVariants.{Unset, Num, Ptr, Map}
 use Rattle.absdom.specs.Kinds.{IsKindBelow}
-use Rattle.absdom.specs.State.{StateValue, IsBelow, IsWhole, after_call, kind_at}
+use Rattle.absdom.specs.State.{StateValue, IsStateBelow, IsWhole, after_call, kind_at}
 use Rattle.absdom_stack.specs.StackWords.{AreAllWhole, AreRangesWithin}
 use Rattle.absdom.specs.Effect.{after_insn}
 use Rattle.absdom.specs.Edges.{Edges, refined_edges}
-use Rattle.absdom.specs.Laws.{BelowIsTransitive, ApplyGrows, RefineGrows, CallGrows, IsGrown, IsEdgeBelow, AreEdgesGrown}
+use Rattle.absdom.specs.Laws.{BelowIsTransitive, ApplyGrows, StateRefineGrows, CallGrows, IsGrown, IsEdgeBelow, AreEdgesGrown}
 use Rattle.absdom_stack.specs.declared.spill.Spill.{Spill}
 use Rattle.bver_form.specs.Jumps.{target}
 use Rattle.bver_form.specs.Lowered.{is_lowered}
 use Rattle.bver_pass.specs.Heads.{AreWidenedRanges, AreUnset, BodyValue, Falls, IsWidened, IsWidenedKind, IsWithinBound, counts, opens, keeps, opened_kind, is_number, retains, forgets}
 use Rattle.bver_pass.specs.Justified.{AreEdgesCovered, AsksCell, HasStore, IsCovered, IsCoveredIfAny, IsHead, IsNumber, IsOpen, IsPermitted, IsResultCovered, Proceeds, knowledge_at, AsksKind, MayAsk, MayCall}
-use Rattle.bver.specs.Told.{IsBelowBut}
+use Rattle.bver.specs.Reported.{IsBelowBut}
 use Rattle.bver.proofs.Rounds.{ranges_whole, words_of}
 
 -- ---- what a table permits of a state, it permits of a smaller one
 
-covered_less : BelowIsTransitive → (a b : StateValue) (there : Option StateValue) → IsBelow a b → IsCovered b there → IsCovered a there
+covered_less : BelowIsTransitive → (a b : StateValue) (there : Option StateValue) → IsStateBelow a b → IsCovered b there → IsCovered a there
 covered_less transitive a b None below h = absurd h
 covered_less transitive a b (Some d) below h = transitive a b d below h
 
@@ -88,18 +88,18 @@ takes_less maps helper (Ptr r a) (Map j) below h = absurd below
 takes_less maps helper (Map i) (Map j) below h = subst (λ (n : ℕ). AsksKind maps helper (Map n)) (sym below) h
 
 -- a state that knows more may ask the same
-may_less : (maps : Maps) (helper : Helper) (a b : StateValue) → IsBelow a b → MayAsk maps helper b → MayAsk maps helper a
+may_less : (maps : Maps) (helper : Helper) (a b : StateValue) → IsStateBelow a b → MayAsk maps helper b → MayAsk maps helper a
 may_less maps helper a b below h = record {
   cell = cell_less maps (kind_at a 1) (kind_at b 1) (kind_at a 2) (kind_at b 2) (below.kinds 1) (below.kinds 2) h.cell;
   given = λ takes. number_less (kind_at a 3) (kind_at b 3) (below.kinds 3) (h.given takes);
   kind = takes_less maps helper (kind_at a 1) (kind_at b 1) (below.kinds 1) h.kind;
 }
 
-called_less : (maps : Maps) (called : Option Helper) (a b : StateValue) → IsBelow a b → MayCall maps called b → MayCall maps called a
+called_less : (maps : Maps) (called : Option Helper) (a b : StateValue) → IsStateBelow a b → MayCall maps called b → MayCall maps called a
 called_less maps None a b below h = absurd h
 called_less maps (Some helper) a b below h = may_less maps helper a b below h
 
-pub permitted_less : ApplyGrows → RefineGrows → CallGrows → BelowIsTransitive → (spill : Spill) (maps : Maps) (table : ℕ → Option StateValue) (slot : ℕ) (a b : StateValue) (insn : Insn) → IsWhole a → IsWhole b → IsBelow a b → IsPermitted spill maps table slot b insn → IsPermitted spill maps table slot a insn
+pub permitted_less : ApplyGrows → StateRefineGrows → CallGrows → BelowIsTransitive → (spill : Spill) (maps : Maps) (table : ℕ → Option StateValue) (slot : ℕ) (a b : StateValue) (insn : Insn) → IsWhole a → IsWhole b → IsStateBelow a b → IsPermitted spill maps table slot b insn → IsPermitted spill maps table slot a insn
 permitted_less applies refines calls transitive spill maps table slot a b insn p q below h = by_insn insn h
   where
     proceeds : (insn : Insn) → Proceeds spill table slot b insn → Proceeds spill table slot a insn
@@ -159,7 +159,7 @@ ranges_below : (p : Program) (l : Loop) (before after above : StateValue) → Is
 ranges_below p l before after above proper wide below (forgets stored is) = ranges_whole after.ranges above.ranges (words_of after proper) (wide stored)
 ranges_below p l before after above proper wide below (retains out is) = rw is below
 
-pub widened_less : (p : Program) (l : Loop) (lowered : List Bool) (place : ℕ) (before after above : StateValue) → l.register ≤ 9 → IsWhole before → IsWhole after → IsHead p l above → (HasStore p l → AreAllWhole above.ranges) → AreUnset p l lowered place above → IsBelowBut l.register before above → IsWidened p l lowered place before after → IsBelow after above
+pub widened_less : (p : Program) (l : Loop) (lowered : List Bool) (place : ℕ) (before after above : StateValue) → l.register ≤ 9 → IsWhole before → IsWhole after → IsHead p l above → (HasStore p l → AreAllWhole above.ranges) → AreUnset p l lowered place above → IsBelowBut l.register before above → IsWidened p l lowered place before after → IsStateBelow after above
 widened_less p l lowered place before after above register_small p_before p_after head wide low below widened = record {
   kinds = λ register.
       elim (cases_lt register 10) [
@@ -178,7 +178,7 @@ widened_less p l lowered place before after above register_small p_before p_afte
 }
 
 -- a head that a run enters outside its bound is in no such table
-pub entry_refuted : (p : Program) (l : Loop) (a above : StateValue) → IsHead p l above → IsBelow a above → (IsWithinBound l a → ⊥) → ⊥
+pub entry_refuted : (p : Program) (l : Loop) (a above : StateValue) → IsHead p l above → IsStateBelow a above → (IsWithinBound l a → ⊥) → ⊥
 entry_refuted p l a above head below outside =
     outside (subst (λ (k : AbsKind). IsKindBelow (kind_at a l.register) k) head.counter (below.kinds l.register))
 

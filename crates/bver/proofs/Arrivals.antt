@@ -20,7 +20,7 @@ use Rattle.machine.specs.declared.regions.Region.TheVariants.{Front, Tail, Stack
 use Rattle.machine.specs.declared.values.Value.{Value}
 use Rattle.machine.specs.declared.values.Value.TheVariants.{Unset, Num, Ptr, Map}
 use Rattle.machine.specs.Words.{holds_words}
-use Rattle.machine.specs.Memory.{Header, place_of}
+use Rattle.machine.specs.Memory.{Header, region_place_of}
 use Rattle.bpf_parts.specs.Sizes.{size_bytes}
 use Rattle.machine.specs.State.{State, state, register_after}
 use Rattle.machine.specs.declared.helpers.Helper.{Helper}
@@ -72,7 +72,7 @@ stores_at s size Unset offset value = tt
 stores_at s size (Num n) offset value = tt
 stores_at s size (Ptr Front start) offset value = tt
 stores_at s size (Ptr Tail start) offset value = tt
-stores_at s size (Ptr Stack start) offset value = puts_at s (size_bytes size) (place_of Stack (size_bytes size) (start +ℤ offset)) value
+stores_at s size (Ptr Stack start) offset value = puts_at s (size_bytes size) (region_place_of Stack (size_bytes size) (start +ℤ offset)) value
 stores_at s size (Map index) offset value = tt
 
 -- a run of an instruction goes on so

@@ -16,7 +16,7 @@ use Rattle.absdom.specs.Edges.{Edges}
 use Rattle.absdom.specs.Effect.{after_insn}
 use Rattle.absdom.specs.State.{StateValue, IsWhole}
 use Rattle.absdom_stack.specs.StackWords.{AreAllWhole}
-use Rattle.absdom.specs.Laws.{ApplyGrows, BelowIsReflexive, BelowIsTransitive, CallGrows, RefineGrows}
+use Rattle.absdom.specs.Laws.{ApplyGrows, BelowIsReflexive, BelowIsTransitive, CallGrows, StateRefineGrows}
 use Rattle.absdom_stack.specs.declared.spill.Spill.{Spill}
 use Rattle.absdom_stack.specs.Spill.{spill_of}
 use Rattle.bver_form.specs.declared.refusal.Refused.{Refused}
@@ -26,11 +26,11 @@ use Rattle.bver_form.specs.Lowered.{is_lowered}
 use Rattle.bver_pass.specs.Heads.{AreUnset, Falls, HasLowered, IsDeclared}
 use Rattle.bver_pass.specs.Justified.{AreEdgesCovered, HasStore, IsCovered, IsCoveredIfAny, IsHead, IsPermitted, IsPermittedAt, IsResultCovered, edges_of_comparison, knowledge_at}
 use Rattle.bver_pass.specs.Leading.{AreLoweredBack, BranchesBelow, EntersOutside, GivesBelow, IsFlowFault, IsFollowedBelow, IsHeadFaultIfAny, IsWidenedAt, IsLeastVisit, IsLoweredBackIfAny, IsWidenedIfAny, IsUncovered, IsUncoveredIfAny, IsVisitFault, IsVisitFaultIfAny, LeadsBelow, enters, jumping_if_any, jumping_state, leads, widens, refutes, returns, stays}
-use Rattle.bver_pass.specs.Table.{TableValue, knowledge_in}
+use Rattle.bver_pass.specs.StateTable.{TableValue, knowledge_in}
 use Rattle.bver_pass.specs.Unjustified.{IsRefuted, Justifies}
 use Rattle.bver_pass.specs.Visit.{AreWhole, IsExtended, IsInsnVisit, IsLeastNext, IsLeastOf, VisitValue, visited_state}
 use Rattle.bver.proofs.Above.{entry_refuted, permitted_less, widened_less}
-use Rattle.bver.specs.Told.{HasToCome, HasToStand, IsClosed, IsCoveredBut, TellsKnown, of_head, of_insn}
+use Rattle.bver.specs.Reported.{HasToCome, HasToStand, IsClosed, IsCoveredBut, ReportsKnown, of_head, of_insn}
 use Rattle.bver_pass.proofs.Covering.{AreCovered, any_covered_more, covered_more}
 use Rattle.bver.proofs.Ahead.{ahead, ahead_before, ahead_from, ahead_next, covered_ahead}
 use Rattle.bver.proofs.Covering.{leads_more}
@@ -211,9 +211,9 @@ fault_before v lowered mid old a insn refused same (returns uncovered) = returns
               u.fallen register small (subst (λ (o : Option StateValue). Falls (record { program = v.program; declared = u.declared; place = u.place }) o edge register) (sym there) falls);
         }
 
-pub enters_fault : (v : VisitValue) (lowered : List Bool) (known : ℕ → Option StateValue) (came : Option StateValue) (insn : Insn) (told : StateValue) (refused : Refused) → IsHeadFaultIfAny v came told refused → IsVisitFaultIfAny v lowered known came (Some insn) told refused
-enters_fault v lowered known None insn told refused fault = fault
-enters_fault v lowered known (Some a) insn told refused fault = enters fault
+pub enters_fault : (v : VisitValue) (lowered : List Bool) (known : ℕ → Option StateValue) (received : Option StateValue) (insn : Insn) (reported : StateValue) (refused : Refused) → IsHeadFaultIfAny v received reported refused → IsVisitFaultIfAny v lowered known received (Some insn) reported refused
+enters_fault v lowered known None insn reported refused fault = fault
+enters_fault v lowered known (Some a) insn reported refused fault = enters fault
 
 pub leads_fault : (v : VisitValue) (lowered : List Bool) (old mid : TableValue) (was : Bool) (before here : StateValue) (insn : Insn) (refused : Refused) → visited_state was before mid v.slot ≡ Some here → IsWhole here
     → IsWidenedIfAny v.program lowered v.slot (visited_state was before old v.slot) (visited_state was before mid v.slot)
@@ -222,7 +222,7 @@ pub leads_fault : (v : VisitValue) (lowered : List Bool) (old mid : TableValue) 
 leads_fault v lowered old mid was before here insn refused known whole widened extended fault =
     by_came (visited_state was before old v.slot) (subst (λ (o : Option StateValue). IsWidenedIfAny v.program lowered v.slot (visited_state was before old v.slot) o) known widened)
   where
-    by_came : (came : Option StateValue) → IsWidenedIfAny v.program lowered v.slot came (Some here) → IsVisitFaultIfAny v lowered (knowledge_in old) came (Some insn) here refused
+    by_came : (received : Option StateValue) → IsWidenedIfAny v.program lowered v.slot received (Some here) → IsVisitFaultIfAny v lowered (knowledge_in old) received (Some insn) here refused
     by_came None widened = widened
     by_came (Some a) widened = leads whole widened (fault_before v lowered (knowledge_in mid) (knowledge_in old) here insn refused extended.kept fault)
 
@@ -233,7 +233,7 @@ pub record Order : Type 0 where
   pub reflexive : BelowIsReflexive
   pub transitive : BelowIsTransitive
   pub applies : ApplyGrows
-  pub refines : RefineGrows
+  pub refines : StateRefineGrows
   pub calls : CallGrows
 
 -- what holds at the head of a loop
@@ -327,47 +327,47 @@ HasToStay v lowered old was before =
     (comes stands : ℕ → Option StateValue) → IsClosed v.program comes stands → StaysBelow v.program old was before v.slot (ahead v.slot comes) × HasLowered v.program lowered stands
 
 -- a refused visit gives its slot, its code and what must be known there, except at an edge back
-pub visit_told : (v : VisitValue) (lowered : List Bool) (old : TableValue) (was : Bool) (before : StateValue) (known : ℕ → Option StateValue) (insn : Insn) (told : StateValue) (refused : Refused)
+pub visit_reported : (v : VisitValue) (lowered : List Bool) (old : TableValue) (was : Bool) (before : StateValue) (known : ℕ → Option StateValue) (insn : Insn) (reported : StateValue) (refused : Refused)
     → insn_at v.program v.slot ≡ Some insn → (IsTrue was → IsKept v.program v.slot → ⊥)
     → IsWhole before → AreWhole (knowledge_in old)
     → HasToStay v lowered old was before
-    → ((a edge : StateValue) → visited_state was before old v.slot ≡ Some a → IsRefusedBack v lowered known insn a told edge → ⊥)
-    → IsVisitFaultIfAny v lowered known (visited_state was before old v.slot) (Some insn) told refused → TellsKnown v.program v.maps told refused
-visit_told v lowered old was before known insn told refused begins plain proper whole below covers fault =
+    → ((a edge : StateValue) → visited_state was before old v.slot ≡ Some a → IsRefusedBack v lowered known insn a reported edge → ⊥)
+    → IsVisitFaultIfAny v lowered known (visited_state was before old v.slot) (Some insn) reported refused → ReportsKnown v.program v.maps reported refused
+visit_reported v lowered old was before known insn reported refused begins plain proper whole below covers fault =
     by_state (visited_state was before old v.slot) refl (comes_whole was before old v.slot proper whole) fault
   where
     comes_there : (a : StateValue) → visited_state was before old v.slot ≡ Some a → HasToCome v.program v.slot a
-    comes_there a came comes stands h =
-        subst (λ (o : Option StateValue). IsCoveredIfAny o (comes v.slot)) came (comes_covered v.program old was before v.slot insn comes begins plain (below comes stands h).0)
+    comes_there a received comes stands h =
+        subst (λ (o : Option StateValue). IsCoveredIfAny o (comes v.slot)) received (comes_covered v.program old was before v.slot insn comes begins plain (below comes stands h).0)
 
-    stands_there : (a : StateValue) → visited_state was before old v.slot ≡ Some a → IsWhole a → IsWhole told → IsWidenedAt v.program lowered v.slot a told → HasToStand v.program v.slot told
-    stands_there a came a_whole told_whole widened comes stands h =
-        widened_covered v.program comes stands lowered v.slot (Some a) (Some told) h (below comes stands h).1 a_whole told_whole (comes_there a came comes stands h) widened
+    stands_there : (a : StateValue) → visited_state was before old v.slot ≡ Some a → IsWhole a → IsWhole reported → IsWidenedAt v.program lowered v.slot a reported → HasToStand v.program v.slot reported
+    stands_there a received a_whole reported_whole widened comes stands h =
+        widened_covered v.program comes stands lowered v.slot (Some a) (Some reported) h (below comes stands h).1 a_whole reported_whole (comes_there a received comes stands h) widened
 
-    by_flow : (a : StateValue) → visited_state was before old v.slot ≡ Some a → IsWhole a → IsWhole told → IsWidenedAt v.program lowered v.slot a told → IsFlowFault v lowered known told insn refused → TellsKnown v.program v.maps told refused
-    by_flow a came a_whole told_whole widened (refutes r) =
+    by_flow : (a : StateValue) → visited_state was before old v.slot ≡ Some a → IsWhole a → IsWhole reported → IsWidenedAt v.program lowered v.slot a reported → IsFlowFault v lowered known reported insn refused → ReportsKnown v.program v.maps reported refused
+    by_flow a received a_whole reported_whole widened (refutes r) =
         of_insn (record {
           insn = insn;
           begins = subst (λ (k : ℕ). insn_at v.program k ≡ Some insn) (sym r.slot) begins;
-          whole = told_whole;
-          stands = subst (λ (k : ℕ). HasToStand v.program k told) (sym r.slot) (stands_there a came a_whole told_whole widened);
+          whole = reported_whole;
+          stands = subst (λ (k : ℕ). HasToStand v.program k reported) (sym r.slot) (stands_there a received a_whole reported_whole widened);
           code = r.code;
-          refuted = subst (λ (k : ℕ). IsRefuted (spill_of v.program.version) v.maps k told insn) (sym r.slot) r.refuted;
+          refuted = subst (λ (k : ℕ). IsRefuted (spill_of v.program.version) v.maps k reported insn) (sym r.slot) r.refuted;
         })
-    by_flow a came a_whole told_whole widened (returns uncovered) = by_edge (jumping_state told insn) refl uncovered
+    by_flow a received a_whole reported_whole widened (returns uncovered) = by_edge (jumping_state reported insn) refl uncovered
       where
-        by_edge : (edge : Option StateValue) → jumping_state told insn ≡ edge → IsUncoveredIfAny v.program v.slot lowered known edge → TellsKnown v.program v.maps told refused
+        by_edge : (edge : Option StateValue) → jumping_state reported insn ≡ edge → IsUncoveredIfAny v.program v.slot lowered known edge → ReportsKnown v.program v.maps reported refused
         by_edge None is uncovered = absurd uncovered
-        by_edge (Some edge) is uncovered = absurd (covers a edge came (a_whole, told_whole, widened, is, uncovered))
+        by_edge (Some edge) is uncovered = absurd (covers a edge received (a_whole, reported_whole, widened, is, uncovered))
 
-    by_fault : (a : StateValue) → visited_state was before old v.slot ≡ Some a → IsWhole a → IsVisitFault v lowered known a insn told refused → TellsKnown v.program v.maps told refused
-    by_fault a came a_whole (enters f) =
-        let comes : HasToCome v.program refused.slot told = subst (λ (k : ℕ). HasToCome v.program k told) (sym f.slot) (subst (λ (s : StateValue). HasToCome v.program v.slot s) (sym f.as_it_came) (comes_there a came)) in
-        let outside : EntersOutside v.program refused.slot told = subst (λ (k : ℕ). EntersOutside v.program k told) (sym f.slot) (subst (λ (s : StateValue). EntersOutside v.program v.slot s) (sym f.as_it_came) f.outside) in
+    by_fault : (a : StateValue) → visited_state was before old v.slot ≡ Some a → IsWhole a → IsVisitFault v lowered known a insn reported refused → ReportsKnown v.program v.maps reported refused
+    by_fault a received a_whole (enters f) =
+        let comes : HasToCome v.program refused.slot reported = subst (λ (k : ℕ). HasToCome v.program k reported) (sym f.slot) (subst (λ (s : StateValue). HasToCome v.program v.slot s) (sym f.as_it_came) (comes_there a received)) in
+        let outside : EntersOutside v.program refused.slot reported = subst (λ (k : ℕ). EntersOutside v.program k reported) (sym f.slot) (subst (λ (s : StateValue). EntersOutside v.program v.slot s) (sym f.as_it_came) f.outside) in
         of_head (record { code = f.code; comes = comes; outside = outside })
-    by_fault a came a_whole (leads told_whole widened flow) = by_flow a came a_whole told_whole widened flow
+    by_fault a received a_whole (leads reported_whole widened flow) = by_flow a received a_whole reported_whole widened flow
 
-    by_state : (came : Option StateValue) → visited_state was before old v.slot ≡ came → IfSome came IsWhole → IsVisitFaultIfAny v lowered known came (Some insn) told refused → TellsKnown v.program v.maps told refused
+    by_state : (received : Option StateValue) → visited_state was before old v.slot ≡ received → IfSome received IsWhole → IsVisitFaultIfAny v lowered known received (Some insn) reported refused → ReportsKnown v.program v.maps reported refused
     by_state None is a_whole fault = absurd fault
     by_state (Some a) is a_whole fault = by_fault a is a_whole fault
 
@@ -399,10 +399,10 @@ justified_closed order p maps table h = record {
 }
 
 -- what a refusal gives refutes the table
-pub told_refutes : Order → (p : Program) (maps : Maps) (a : StateValue) (refused : Refused) (table : ℕ → Option StateValue) → TellsKnown p maps a refused → Justifies p maps table → ⊥
-told_refutes order p maps a refused table (of_insn t) h =
+pub reported_refutes : Order → (p : Program) (maps : Maps) (a : StateValue) (refused : Refused) (table : ℕ → Option StateValue) → ReportsKnown p maps a refused → Justifies p maps table → ⊥
+reported_refutes order p maps a refused table (of_insn t) h =
     t.refuted table (permitted_there order p maps table refused.slot a t.insn h t.begins t.whole (t.stands table table (justified_closed order p maps table h)))
-told_refutes order p maps a refused table (of_head t) h =
+reported_refutes order p maps a refused table (of_head t) h =
     by_there (table refused.slot) (subst (λ (k : ℕ). IfSome (table k) (IsHead p t.outside.declared)) t.outside.head (head_in p table table t.outside.declared t.outside.place (justified_closed order p maps table h) t.outside.is))
     (t.comes table table (justified_closed order p maps table h))
   where

@@ -10,18 +10,18 @@ use Rattle.machine.specs.declared.regions.Region.{Region}
 use Rattle.machine.specs.Step.{insn_at}
 use Rattle.absdom.specs.declared.kinds.AbsKind.{AbsKind}
 use Rattle.absdom.specs.declared.kinds.AbsKind.TheVariants.{Unset, Num, Ptr, Map}
-use Rattle.absdom.specs.State.{StateValue, IsBelow, IsWhole, kind_at}
+use Rattle.absdom.specs.State.{StateValue, IsStateBelow, IsWhole, kind_at}
 use Rattle.absdom_stack.specs.StackWords.{AreAllWhole}
 use Rattle.absdom_stack.specs.Spill.{spill_of}
 use Rattle.bver_form.specs.Form.{IsFormed}
 use Rattle.bver_form.specs.Laws.{LoopsAreEntered}
-use Rattle.bver_form.specs.Loops.{ComesIn, IsEdge, IsInside, IsLoopFormed, IsNestedOrApart, holds, step_down}
+use Rattle.bver_form.specs.Loops.{ComesIn, IsEdge, IsLoopInside, IsLoopFormed, IsNestedOrApart, holds, step_down}
 use Rattle.bver_form.specs.Lowered.{is_lowered}
 use Rattle.bver_form.specs.Targets.{IsKept}
 use Rattle.bver_pass.specs.Heads.{IsDeclared, IsWidened, IsWidenedKind, counts, is_number, keeps, opened_kind, opens}
 use Rattle.bver_pass.specs.Justified.{HasStore, IsCovered, IsCoveredIfAny, IsEntered, IsHead, IsWrittenIn}
 use Rattle.bver_pass.specs.Leading.{IsFollowedBelow, IsLeastVisit, IsWidenedIfAny, LeadsBelow, widens, stays}
-use Rattle.bver_pass.specs.Table.{TableValue, knowledge_in}
+use Rattle.bver_pass.specs.StateTable.{TableValue, knowledge_in}
 use Rattle.bver_pass.specs.Visit.{AreWhole, HasNext, IsInsnVisit, IsLeastEntry, VisitValue, visited_state}
 use Rattle.bver.proofs.Below.{StaysBelow, below_next, below_none, below_skip, comes_below, comes_whole}
 use Rattle.bver.proofs.Counters.{same_place}
@@ -29,7 +29,7 @@ use Rattle.bver_pass.proofs.Loops.{inside_of}
 use Rattle.bver.proofs.Keeping.{kept_begins}
 use Rattle.bver_pass.proofs.Keeping.{head_kept}
 use Rattle.bver.proofs.Widening.{wide_is}
-use Rattle.bver.proofs.Rings.{IsBehind, ring, ring_any, ring_behind, ring_more}
+use Rattle.bver.proofs.Rings.{IsAfterHead, ring, ring_any, ring_after, ring_more}
 use Rattle.bver.proofs.Rounds.{IsRound, alone, below_all, below_alone, below_marked, below_ranged, counter_range, kind_alone, marked, marks_marked, ranged, ranges_ranged, words_all, words_of, words_whole}
 use Rattle.bver.proofs.Turns.{IsAround, Leaves, leads_around, leads_counted, leads_outside, round_head, round_widened}
 
@@ -58,7 +58,7 @@ pub record IsCircle (p : Program) (l : Loop) (place : ℕ) (start : List Bool) (
 
 -- ---- what is known at a slot of the loop
 
-round_of : (p : Program) (l : Loop) (slot : ℕ) (h a : StateValue) → ((around : ℕ → StateValue) → IsAround p l h around → IsBelow a (around slot)) → IsRound p l slot h a
+round_of : (p : Program) (l : Loop) (slot : ℕ) (h a : StateValue) → ((around : ℕ → StateValue) → IsAround p l h around → IsStateBelow a (around slot)) → IsRound p l slot h a
 round_of p l slot h a below = record {
   unwritten = λ register out.
       kind_alone a register (kind_at h register)
@@ -72,35 +72,35 @@ round_of p l slot h a below = record {
 }
 
 -- what comes to a slot after the head
-pub comes_round : (p : Program) (l : Loop) (place : ℕ) (start : List Bool) (table : TableValue) (runs : Bool) (state : StateValue) (slot : ℕ) (h : StateValue) (insn : Insn) → insn_at p slot ≡ Some insn → (IsTrue runs → IsKept p slot → ⊥) → IsBehind l slot → IsTurning p l place start table runs state slot h → IfSome (visited_state runs state table slot) (IsRound p l slot h)
-comes_round p l place start table runs state slot h insn begins plain behind turning =
+pub comes_round : (p : Program) (l : Loop) (place : ℕ) (start : List Bool) (table : TableValue) (runs : Bool) (state : StateValue) (slot : ℕ) (h : StateValue) (insn : Insn) → insn_at p slot ≡ Some insn → (IsTrue runs → IsKept p slot → ⊥) → IsAfterHead l slot → IsTurning p l place start table runs state slot h → IfSome (visited_state runs state table slot) (IsRound p l slot h)
+comes_round p l place start table runs state slot h insn begins plain following turning =
     by_state (visited_state runs state table slot) (λ around covers.
-    subst (λ (o : Option StateValue). IsCoveredIfAny (visited_state runs state table slot) o) (ring_behind l (λ k. Some (around k)) slot behind)
+    subst (λ (o : Option StateValue). IsCoveredIfAny (visited_state runs state table slot) o) (ring_after l (λ k. Some (around k)) slot following)
     (comes_below p table runs state slot insn (ring l (λ k. Some (around k))) begins plain (turning.below around covers)))
   where
-    by_state : (came : Option StateValue) → ((around : ℕ → StateValue) → IsAround p l h around → IsCoveredIfAny came (Some (around slot))) → IfSome came (IsRound p l slot h)
+    by_state : (received : Option StateValue) → ((around : ℕ → StateValue) → IsAround p l h around → IsCoveredIfAny received (Some (around slot))) → IfSome received (IsRound p l slot h)
     by_state None below = tt
     by_state (Some a) below = round_of p l slot h a below
 
 -- if nothing is known at the head, nothing comes there
-pub comes_none : (p : Program) (l : Loop) (table : TableValue) (runs : Bool) (state : StateValue) (slot : ℕ) (insn : Insn) → insn_at p slot ≡ Some insn → (IsTrue runs → IsKept p slot → ⊥) → IsBehind l slot → StaysBelow p table runs state slot (ring l nothing) → visited_state runs state table slot ≡ None
-comes_none p l table runs state slot insn begins plain behind below =
+pub comes_none : (p : Program) (l : Loop) (table : TableValue) (runs : Bool) (state : StateValue) (slot : ℕ) (insn : Insn) → insn_at p slot ≡ Some insn → (IsTrue runs → IsKept p slot → ⊥) → IsAfterHead l slot → StaysBelow p table runs state slot (ring l nothing) → visited_state runs state table slot ≡ None
+comes_none p l table runs state slot insn begins plain following below =
     by_state (visited_state runs state table slot)
-    (subst (λ (o : Option StateValue). IsCoveredIfAny (visited_state runs state table slot) o) (ring_behind l nothing slot behind)
+    (subst (λ (o : Option StateValue). IsCoveredIfAny (visited_state runs state table slot) o) (ring_after l nothing slot following)
     (comes_below p table runs state slot insn (ring l nothing) begins plain below))
   where
-    by_state : (came : Option StateValue) → IsCoveredIfAny came None → came ≡ None
+    by_state : (received : Option StateValue) → IsCoveredIfAny received None → received ≡ None
     by_state None covered = refl
     by_state (Some a) covered = absurd covered
 
 -- ---- widened at a head
 
 -- a loop that has its head after that of another, in it, lies inside
-lies_inside : (l m : Loop) → IsNestedOrApart l m → l.head < l.back → m.head < m.back → IsBehind l m.head → IsInside m l
-lies_inside l m (inl (inl before)) l_order m_order behind = absurd (omega (arith, before, behind.1))
-lies_inside l m (inl (inr after)) l_order m_order behind = absurd (omega (arith, after, behind.0, m_order))
-lies_inside l m (inr (inl outer)) l_order m_order behind = absurd (omega (arith, outer.0, behind.0))
-lies_inside l m (inr (inr inner)) l_order m_order behind = inner
+lies_inside : (l m : Loop) → IsNestedOrApart l m → l.head < l.back → m.head < m.back → IsAfterHead l m.head → IsLoopInside m l
+lies_inside l m (inl (inl before)) l_order m_order following = absurd (omega (arith, before, following.1))
+lies_inside l m (inl (inr after)) l_order m_order following = absurd (omega (arith, after, following.0, m_order))
+lies_inside l m (inr (inl outer)) l_order m_order following = absurd (omega (arith, outer.0, following.0))
+lies_inside l m (inr (inr inner)) l_order m_order following = inner
 
 -- a declared loop has its form
 pub formed_in : (p : Program) (l : Loop) (place : ℕ) → IsFormed p → IsDeclared p l place → IsLoopFormed p l
@@ -111,14 +111,14 @@ nested_in p l m place formed declared other =
     subst (λ (n : Loop). n.head ≢ l.head → IsNestedOrApart l n) (declared.is m) (formed.others place m declared.inside) other
 
 -- what is widened after the head stays so
-pub widened_round : (p : Program) (l : Loop) (place : ℕ) (lowered : List Bool) (slot : ℕ) (h : StateValue) (came here : Option StateValue) → IsFormed p → IsDeclared p l place → IsBehind l slot → IfSome came IsWhole → IfSome here IsWhole → IsWidenedIfAny p lowered slot came here → IfSome came (IsRound p l slot h) → IfSome here (IsRound p l slot h)
-widened_round p l place lowered slot h None None form declared behind old new widened round = tt
-widened_round p l place lowered slot h None (Some a) form declared behind old new widened round = absurd widened
-widened_round p l place lowered slot h (Some b) None form declared behind old new widened round = tt
-widened_round p l place lowered slot h (Some b) (Some a) form declared behind old new (stays none same) round = subst (λ (s : StateValue). IsRound p l slot h s) (sym same) round
-widened_round p l place lowered slot h (Some b) (Some a) form declared behind old new (widens m other inner at widened) round =
+pub widened_round : (p : Program) (l : Loop) (place : ℕ) (lowered : List Bool) (slot : ℕ) (h : StateValue) (received here : Option StateValue) → IsFormed p → IsDeclared p l place → IsAfterHead l slot → IfSome received IsWhole → IfSome here IsWhole → IsWidenedIfAny p lowered slot received here → IfSome received (IsRound p l slot h) → IfSome here (IsRound p l slot h)
+widened_round p l place lowered slot h None None form declared following old new widened round = tt
+widened_round p l place lowered slot h None (Some a) form declared following old new widened round = absurd widened
+widened_round p l place lowered slot h (Some b) None form declared following old new widened round = tt
+widened_round p l place lowered slot h (Some b) (Some a) form declared following old new (stays none same) round = subst (λ (s : StateValue). IsRound p l slot h s) (sym same) round
+widened_round p l place lowered slot h (Some b) (Some a) form declared following old new (widens m other inner at widened) round =
     let outer = formed_in p l place form declared in
-    let inside : IsInside m l = lies_inside l m (nested_in p l m other outer inner (λ same. omega (arith, same, at, behind.0))) declared.limits.ordered inner.limits.ordered (omega (arith, at, behind.0), omega (arith, at, behind.1)) in
+    let inside : IsLoopInside m l = lies_inside l m (nested_in p l m other outer inner (λ same. omega (arith, same, at, following.0))) declared.limits.ordered inner.limits.ordered (omega (arith, at, following.0), omega (arith, at, following.1)) in
     round_widened p l m lowered other slot h b a inner.limits.ordered outer (formed_in p m other form inner) inside old new widened round
 
 -- ---- at the head of the loop
@@ -141,7 +141,7 @@ lowered_none p l lowered place register before after other written low (opens o 
 lowered_none p l lowered place register before after other written low (keeps o w is) = absurd (w written)
 
 -- what was lowered is no number after the head is widened
-widened_unset : (p : Program) (l : Loop) (place : ℕ) (lowered : List Bool) (register : ℕ) (came : Option StateValue) (h : StateValue) → IsProgram p → IsDeclared p l place → register ≤ 9 → register ≢ l.register → IsWrittenIn p l register → is_lowered lowered place register ≡ true → IsWidenedIfAny p lowered l.head came (Some h) → is_number (kind_at h register) ≡ false
+widened_unset : (p : Program) (l : Loop) (place : ℕ) (lowered : List Bool) (register : ℕ) (received : Option StateValue) (h : StateValue) → IsProgram p → IsDeclared p l place → register ≤ 9 → register ≢ l.register → IsWrittenIn p l register → is_lowered lowered place register ≡ true → IsWidenedIfAny p lowered l.head received (Some h) → is_number (kind_at h register) ≡ false
 widened_unset p l place lowered register None h limits declared small other written low widened = absurd widened
 widened_unset p l place lowered register (Some b) h limits declared small other written low (stays none same) =
     absurd (none place l declared.inside (ap (λ (n : Loop). n.head) (declared.is l)))
@@ -151,7 +151,7 @@ widened_unset p l place lowered register (Some b) h limits declared small other 
     lowered_none p l lowered place register (kind_at b register) (kind_at h register) other written low (here.registers register small)
 
 -- if the loop stores, nothing is known of any word of the stack after the head is widened
-widened_wide : (p : Program) (l : Loop) (place : ℕ) (lowered : List Bool) (came : Option StateValue) (h : StateValue) → IsProgram p → IsDeclared p l place → IsWidenedIfAny p lowered l.head came (Some h) → HasStore p l → AreAllWhole h.ranges
+widened_wide : (p : Program) (l : Loop) (place : ℕ) (lowered : List Bool) (received : Option StateValue) (h : StateValue) → IsProgram p → IsDeclared p l place → IsWidenedIfAny p lowered l.head received (Some h) → HasStore p l → AreAllWhole h.ranges
 widened_wide p l place lowered None h limits declared widened stored = absurd widened
 widened_wide p l place lowered (Some b) h limits declared (stays none same) stored =
     absurd (none place l declared.inside (ap (λ (n : Loop). n.head) (declared.is l)))
@@ -214,7 +214,7 @@ circle_next laws entered v lowered now start old new was runs before after settl
         by_test true is = absurd (omega (arith, before_head, (inside_of l v.slot is).0))
 
     at_no_ring : (inner : ℕ → Option StateValue) (a : StateValue) → IsWhole a → v.slot ≤ l.head → IsCovered a (ring l inner v.slot)
-    at_no_ring inner a proper upto = ring_any (λ o. IsCovered a o) l inner v.slot (λ behind. absurd (omega (arith, upto, behind.0))) (below_all a (words_of a proper))
+    at_no_ring inner a proper upto = ring_any (λ o. IsCovered a o) l inner v.slot (λ following. absurd (omega (arith, upto, following.0))) (below_all a (words_of a proper))
 
     here_whole : IfSome here IsWhole
     here_whole = comes_whole was before new v.slot proper (visit.extended.whole whole)
@@ -304,19 +304,19 @@ circle_next laws entered v lowered now start old new was runs before after settl
       below = λ around covers. next_below (ring l (λ k. Some (around k)))
           (any_followed (ring l (λ k. Some (around k))) (λ a found.
           let round : IsRound v.program l v.slot h a = subst (λ (o : Option StateValue). IfSome o (IsRound v.program l v.slot h)) found rounds in (
-            subst (λ (o : Option StateValue). IsCovered a o) (sym (ring_behind l (λ k. Some (around k)) v.slot behind)) (covers v.slot a round),
+            subst (λ (o : Option StateValue). IsCovered a o) (sym (ring_after l (λ k. Some (around k)) v.slot following)) (covers v.slot a round),
             leads h a around (omega (arith, past)) upto (whole_of a found) covers round,
           )))
           (turning.below around covers);
     }
       where
-        behind : IsBehind l v.slot
-        behind = (past, omega (arith, upto))
+        following : IsAfterHead l v.slot
+        following = (past, omega (arith, upto))
 
         rounds : IfSome here (IsRound v.program l v.slot h)
         rounds =
-            widened_round v.program l place lowered v.slot h (visited_state was before old v.slot) here form declared behind (comes_whole was before old v.slot proper whole) here_whole least.widened
-            (comes_round v.program l place start old was before v.slot h insn begins plain behind turning)
+            widened_round v.program l place lowered v.slot h (visited_state was before old v.slot) here form declared following (comes_whole was before old v.slot proper whole) here_whole least.widened
+            (comes_round v.program l place start old was before v.slot h insn begins plain following turning)
 
     by_place : (l.head < v.slot) ⊎ (v.slot ≤ l.head) → l.head < v.slot + 1 → v.slot + 1 ≤ l.back → IsTurningIfAny v.program l place start new runs after (v.slot + 1) (knowledge_in new l.head)
     by_place (inl past) head upto =
@@ -328,15 +328,15 @@ circle_next laws entered v lowered now start old new was runs before after settl
 pub circle_skip : (p : Program) (l : Loop) (place : ℕ) (start : List Bool) (table : TableValue) (runs : Bool) (state : StateValue) (slot : ℕ) → IsProgram p → IsFormed p → IsDeclared p l place → insn_at p slot ≡ None → IsCircle p l place start table runs state slot → IsCircle p l place start table runs state (slot + 1)
 circle_skip p l place start table runs state slot limits form declared none circle = record {
   ahead = λ upto. below_skip p table runs state slot (ring l nothing) none (circle.ahead (omega (arith, upto)));
-  within = λ past upto. by_known (knowledge_in table l.head) (circle.within (behind past) (omega (arith, upto)));
+  within = λ past upto. by_known (knowledge_in table l.head) (circle.within (following past) (omega (arith, upto)));
 }
   where
     -- an instruction begins at the head
     begins : IsSome (insn_at p l.head)
     begins = kept_begins p l.head limits (head_kept p l form (formed_in p l place form declared) (omega (arith, declared.limits.ordered)))
 
-    behind : l.head < slot + 1 → l.head < slot
-    behind past =
+    following : l.head < slot + 1 → l.head < slot
+    following past =
         elim (cases_lt l.head slot) [
           | inl earlier ↦ earlier
           | inr not_past ↦
@@ -359,7 +359,7 @@ circle_none p l place start table state entered least = record {
   ahead = λ upto. below_none p table state (ring l nothing) (least (ring l nothing) (record {
     known = entered.known;
     entry = entered.entry;
-    covered = ring_any (λ o. IsCovered entered.known o) l nothing 0 (λ behind. absurd (omega (arith, behind.0))) (below_all entered.known (words_whole entered.known.ranges entered.entry.ranges));
+    covered = ring_any (λ o. IsCovered entered.known o) l nothing 0 (λ following. absurd (omega (arith, following.0))) (below_all entered.known (words_whole entered.known.ranges entered.entry.ranges));
   }));
   within = λ past upto. absurd (omega (arith, past));
 }

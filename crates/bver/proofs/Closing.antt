@@ -23,10 +23,10 @@ use Rattle.absdom.specs.declared.cause.Cause.{Cause}
 use Rattle.absdom.specs.declared.kinds.AbsKind.{AbsKind}
 use Rattle.absdom.specs.declared.kinds.AbsKind.TheVariants.{Unset, Num, Ptr, Map}
 use Rattle.absdom.specs.Kinds.{IsKindBelow, number_of}
-use Rattle.absdom.specs.State.{StateValue, IsBelow, IsProper, IsWhole, kind_at, with_kind}
+use Rattle.absdom.specs.State.{StateValue, IsStateBelow, IsProper, IsWhole, kind_at, with_kind}
 use Rattle.absdom_stack.specs.StackWords.{AreAllWhole}
 use Rattle.absdom.specs.Edges.{Edges, compared_edges, edge_state, refined_edges}
-use Rattle.absdom.specs.Laws.{AreEdgesBelow, RefineShrinks}
+use Rattle.absdom.specs.Laws.{AreEdgesBelow, StateRefineShrinks}
 use Rattle.bver_form.specs.Form.{IsFormed}
 use Rattle.bver_form.specs.Loops.{back_jump}
 use Rattle.bver_form.specs.Lowered.{is_lowered}
@@ -143,14 +143,14 @@ counter_back l a edge limits whole below is = by_kind (kind_at a l.register) bel
     by_kind (Map index) below proper is = absurd below
 
 -- what is known along the edge back says all that is known at the back
-back_below : RefineShrinks → (l : Loop) (a edge : StateValue) → jumping_state a (back_jump l) ≡ Some edge → IsBelow edge a
+back_below : StateRefineShrinks → (l : Loop) (a edge : StateValue) → jumping_state a (back_jump l) ≡ Some edge → IsStateBelow edge a
 back_below shrinks l a edge is = by_edges (refined_edges a NotEqual Bits64 l.register (Immediate (pos 0))) (shrinks a NotEqual Bits64 l.register (Immediate (pos 0))) is
   where
-    by_taken : (o : Option StateValue) → IfSome o (λ e. IsBelow e a) → o ≡ Some edge → IsBelow edge a
+    by_taken : (o : Option StateValue) → IfSome o (λ e. IsStateBelow e a) → o ≡ Some edge → IsStateBelow edge a
     by_taken None below is = absurd cc
-    by_taken (Some e) below is = let same : e ≡ edge = cc in subst (λ (s : StateValue). IsBelow s a) same below
+    by_taken (Some e) below is = let same : e ≡ edge = cc in subst (λ (s : StateValue). IsStateBelow s a) same below
 
-    by_edges : (r : Result Edges Cause) → IfOk r (λ edges. AreEdgesBelow edges a) → taken_state r ≡ Some edge → IsBelow edge a
+    by_edges : (r : Result Edges Cause) → IfOk r (λ edges. AreEdgesBelow edges a) → taken_state r ≡ Some edge → IsStateBelow edge a
     by_edges (Err cause) below is = absurd cc
     by_edges (Ok edges) below is = by_taken edges.taken below.taken is
 
@@ -173,7 +173,7 @@ pub back_covered : Leaves → (p : Program) (l : Loop) (place : ℕ) (start lowe
     → ((register : ℕ) → register ≤ 9 → is_lowered lowered place register ≡ is_lowered start place register)
     → IsRound p l l.back h a → jumping_state a (back_jump l) ≡ Some edge
     → ((register : ℕ) → register ≤ 9 → Falls (record { program = p; declared = l; place = place }) (Some h) edge register → IsTrue (is_lowered lowered place register))
-    → IsBelow edge h
+    → IsStateBelow edge h
 back_covered laws p l place start lowered h a edge form declared h_whole a_whole edge_whole head wide unset same round is fallen =
     closes p l h edge edge_whole head
     (λ register out. kind_less laws.transitive (kind_at edge register) (kind_at a register) (kind_at h register) (below.kinds register) (round.unwritten register out))
@@ -186,7 +186,7 @@ back_covered laws p l place start lowered h a edge form declared h_whole a_whole
     (λ out. ranges_less edge.ranges a.ranges h.ranges below.ranges (round.ranges out))
     (stored_or_not p l declared.limits.ordered)
   where
-    below : IsBelow edge a
+    below : IsStateBelow edge a
     below = back_below laws.shrinks l a edge is
 
     numbers : (register : ℕ) → register ≢ l.register → IsWrittenIn p l register → IsTrue (is_number (kind_at h register)) → IsTrue (is_number (kind_at edge register))

@@ -16,8 +16,8 @@ use Rattle.machine.specs.Step.{insn_at}
 use Rattle.absdom.specs.declared.cause.Cause.{Cause}
 use Rattle.absdom.specs.declared.kinds.AbsKind.TheVariants.{Unset}
 use Rattle.absdom.specs.Edges.{Edges, refined_edges}
-use Rattle.absdom.specs.State.{StateValue, IsBelow, IsWhole, kind_at}
-use Rattle.absdom.specs.Laws.{ApplyGrows, ApplyLeaves, BelowIsReflexive, BelowIsTransitive, CallGrows, CallLeaves, RefineGrows, RefineShrinks}
+use Rattle.absdom.specs.State.{StateValue, IsStateBelow, IsWhole, kind_at}
+use Rattle.absdom.specs.Laws.{ApplyGrows, ApplyLeaves, BelowIsReflexive, BelowIsTransitive, CallGrows, CallLeaves, StateRefineGrows, StateRefineShrinks}
 use Rattle.absdom_stack.specs.declared.spill.Spill.{Spill}
 use Rattle.absdom_stack.specs.Spill.{spill_of}
 use Rattle.bver_form.specs.declared.refusal.Refused.{Refused}
@@ -30,16 +30,16 @@ use Rattle.bver_form.specs.Targets.{IsKept}
 use Rattle.bver_pass.specs.Heads.{AreUnset, Falls, HasLowered, IsDeclared}
 use Rattle.bver_pass.specs.Justified.{IsCovered, IsCoveredIfAny, IsEntered, IsHead, knowledge_at}
 use Rattle.bver_pass.specs.Leading.{BranchesBelow, LeadsBelow, IsLeastVisit, AreLoweredBack, IsLeastVisitIfAny, IsLoweredBack, IsLoweredBackIfAny, IsUncovered, IsVisitFaultIfAny, jumping_if_any, jumping_state, taken_state}
-use Rattle.bver_pass.specs.Table.{TableValue, knowledge_in}
+use Rattle.bver_pass.specs.StateTable.{TableValue, knowledge_in}
 use Rattle.bver_pass.specs.Visit.{AreWhole, IsInsnVisit, IsLeastEntry, IsVisit, VisitValue, visited_state}
-use Rattle.bver.specs.Told.{HasToLower, IsClosed, IsCoveredBut, TellsKnown}
+use Rattle.bver.specs.Reported.{HasToLower, IsClosed, IsCoveredBut, ReportsKnown}
 use Rattle.bver.proofs.Above.{falls_unset}
 use Rattle.bver.proofs.Ahead.{ahead, ahead_from, ahead_next}
-use Rattle.bver.proofs.Below.{IsRefusedBack, Order, StaysBelow, below_none, below_skip, below_wider, closed_next, comes_whole, head_in, here_covered, opened_in, visit_told}
+use Rattle.bver.proofs.Below.{IsRefusedBack, Order, StaysBelow, below_none, below_skip, below_wider, closed_next, comes_whole, head_in, here_covered, opened_in, visit_reported}
 use Rattle.bver.proofs.Circles.{IsCircle, IsTurningIfAny, circle_next, circle_none, circle_skip, comes_none, comes_round, formed_in, widened_round}
 use Rattle.bver.proofs.Closing.{back_covered}
 use Rattle.bver_form.proofs.Entering.{to_head}
-use Rattle.bver.proofs.Rings.{IsBehind}
+use Rattle.bver.proofs.Rings.{IsAfterHead}
 use Rattle.bver.proofs.Rounds.{IsRound}
 use Rattle.bver.proofs.Slots.{has_next}
 use Rattle.bver.proofs.Turns.{Leaves}
@@ -49,11 +49,11 @@ pub record Rules : Type 0 where
   pub reflexive : BelowIsReflexive
   pub transitive : BelowIsTransitive
   pub applies : ApplyGrows
-  pub refines : RefineGrows
+  pub refines : StateRefineGrows
   pub calls : CallGrows
   pub apply_leaves : ApplyLeaves
   pub call_leaves : CallLeaves
-  pub shrinks : RefineShrinks
+  pub shrinks : StateRefineShrinks
   pub entered : LoopsAreEntered
 
 order_of : Rules → Order
@@ -221,43 +221,43 @@ back_refuted : Rules → (v : VisitValue) (start lowered : List Bool) (old : Tab
     → IsFormed v.program → insn_at v.program v.slot ≡ Some insn → (IsTrue was → IsKept v.program v.slot → ⊥) → AreWhole (knowledge_in old)
     → IsCompleting v.program start lowered old was before v.slot
     → (a here edge : StateValue) → visited_state was before old v.slot ≡ Some a → IsRefusedBack v lowered (knowledge_in old) insn a here edge → ⊥
-back_refuted rules v start lowered old was before insn form begins plain whole h a here edge came refused = by_uncovered refused.4
+back_refuted rules v start lowered old was before insn form begins plain whole h a here edge received refused = by_uncovered refused.4
   where
-    by_turn : (u : IsUncovered v.program v.slot lowered (knowledge_in old) edge) → IsBehind u.declared v.slot → (o : Option StateValue) → knowledge_in old u.declared.head ≡ o → IsTurningIfAny v.program u.declared u.place start old was before v.slot o → ⊥
-    by_turn u behind None is below =
-        let none : visited_state was before old v.slot ≡ None = comes_none v.program u.declared old was before v.slot insn begins plain behind below in
+    by_turn : (u : IsUncovered v.program v.slot lowered (knowledge_in old) edge) → IsAfterHead u.declared v.slot → (o : Option StateValue) → knowledge_in old u.declared.head ≡ o → IsTurningIfAny v.program u.declared u.place start old was before v.slot o → ⊥
+    by_turn u following None is below =
+        let none : visited_state was before old v.slot ≡ None = comes_none v.program u.declared old was before v.slot insn begins plain following below in
         absurd cc
-    by_turn u behind (Some d) is turning =
+    by_turn u following (Some d) is turning =
         let l = u.declared in
         let insn_is : insn ≡ back_jump l = jumps_back v.program l u.place v.slot insn form u.is u.back begins in
-        let round_came : IsRound v.program l v.slot d a = subst (λ (o : Option StateValue). IfSome o (IsRound v.program l v.slot d)) came (comes_round v.program l u.place start old was before v.slot d insn begins plain behind turning) in
-        let round_here : IsRound v.program l v.slot d here = widened_round v.program l u.place lowered v.slot d (Some a) (Some here) form u.is behind refused.0 refused.1 refused.2 round_came in
+        let round_came : IsRound v.program l v.slot d a = subst (λ (o : Option StateValue). IfSome o (IsRound v.program l v.slot d)) received (comes_round v.program l u.place start old was before v.slot d insn begins plain following turning) in
+        let round_here : IsRound v.program l v.slot d here = widened_round v.program l u.place lowered v.slot d (Some a) (Some here) form u.is following refused.0 refused.1 refused.2 round_came in
         let d_whole : IsWhole d = subst (λ (o : Option StateValue). IfSome o IsWhole) is (whole l.head) in
-        let below : IsBelow edge d = back_covered (leaves_of rules) v.program l u.place start lowered d here edge form u.is d_whole refused.1 u.whole turning.head turning.wide turning.unset
-        (h.same l u.place u.is behind.1) (subst (λ (k : ℕ). IsRound v.program l k d here) (sym u.back) round_here) (subst (λ (i : Insn). jumping_state here i ≡ Some edge) insn_is refused.3)
+        let below : IsStateBelow edge d = back_covered (leaves_of rules) v.program l u.place start lowered d here edge form u.is d_whole refused.1 u.whole turning.head turning.wide turning.unset
+        (h.same l u.place u.is following.1) (subst (λ (k : ℕ). IsRound v.program l k d here) (sym u.back) round_here) (subst (λ (i : Insn). jumping_state here i ≡ Some edge) insn_is refused.3)
         (λ register small falls. u.fallen register small (subst (λ (o : Option StateValue). Falls (record { program = v.program; declared = l; place = u.place }) o edge register) (sym is) falls)) in
         u.uncovered (subst (λ (o : Option StateValue). IsCovered edge o) (sym is) below)
 
     by_uncovered : IsUncovered v.program v.slot lowered (knowledge_in old) edge → ⊥
     by_uncovered u =
-        let behind : IsBehind u.declared v.slot = (omega (arith, u.is.limits.ordered, u.back), omega (arith, u.back)) in
-        by_turn u behind (knowledge_in old u.declared.head) refl ((h.circles u.declared u.place u.is).within behind.0 behind.1)
+        let following : IsAfterHead u.declared v.slot = (omega (arith, u.is.limits.ordered, u.back), omega (arith, u.back)) in
+        by_turn u following (knowledge_in old u.declared.head) refl ((h.circles u.declared u.place u.is).within following.0 following.1)
 
 -- what a refused visit of a slot gives
-pub complete_told : Rules → (v : VisitValue) (p : Program) (maps : Maps) (slot : ℕ) (start lowered : List Bool) (old : TableValue) (was : Bool) (before told : StateValue) (refused : Refused)
+pub complete_reported : Rules → (v : VisitValue) (p : Program) (maps : Maps) (slot : ℕ) (start lowered : List Bool) (old : TableValue) (was : Bool) (before reported : StateValue) (refused : Refused)
     → v ≡ record { program = p; maps = maps; slot = slot } → IsFormed p → (IsTrue was → IsKept p slot → ⊥)
     → IsWhole before → AreWhole (knowledge_in old)
-    → IsVisitFaultIfAny v lowered (knowledge_in old) (visited_state was before old v.slot) (insn_at v.program v.slot) told refused
-    → IsCompleting p start lowered old was before slot → HasToLower p start → TellsKnown p maps told refused
-complete_told rules v p maps slot start lowered old was before told refused same form plain proper whole fault h low =
-    by_insn (insn_at p slot) refl (subst (λ (u : VisitValue). IsVisitFaultIfAny u lowered (knowledge_in old) (visited_state was before old u.slot) (insn_at u.program u.slot) told refused) same fault)
+    → IsVisitFaultIfAny v lowered (knowledge_in old) (visited_state was before old v.slot) (insn_at v.program v.slot) reported refused
+    → IsCompleting p start lowered old was before slot → HasToLower p start → ReportsKnown p maps reported refused
+complete_reported rules v p maps slot start lowered old was before reported refused same form plain proper whole fault h low =
+    by_insn (insn_at p slot) refl (subst (λ (u : VisitValue). IsVisitFaultIfAny u lowered (knowledge_in old) (visited_state was before old u.slot) (insn_at u.program u.slot) reported refused) same fault)
   where
-    by_insn : (o : Option Insn) → insn_at p slot ≡ o → IsVisitFaultIfAny (record { program = p; maps = maps; slot = slot }) lowered (knowledge_in old) (visited_state was before old slot) o told refused → TellsKnown p maps told refused
+    by_insn : (o : Option Insn) → insn_at p slot ≡ o → IsVisitFaultIfAny (record { program = p; maps = maps; slot = slot }) lowered (knowledge_in old) (visited_state was before old slot) o reported refused → ReportsKnown p maps reported refused
     by_insn None none fault = absurd fault
     by_insn (Some insn) begins fault =
-        visit_told (record { program = p; maps = maps; slot = slot }) lowered old was before (knowledge_in old) insn told refused begins plain proper whole
+        visit_reported (record { program = p; maps = maps; slot = slot }) lowered old was before (knowledge_in old) insn reported refused begins plain proper whole
         (λ comes stands closed. h.below comes stands closed (low comes stands closed))
-        (λ a. back_refuted rules (record { program = p; maps = maps; slot = slot }) start lowered old was before insn form begins plain whole h a told) fault
+        (λ a. back_refuted rules (record { program = p; maps = maps; slot = slot }) start lowered old was before insn form begins plain whole h a reported) fault
 
 -- ---- at first nothing is lowered
 
@@ -276,8 +276,8 @@ lowers_nothing p lowered table none l place declared = by_there (table l.head)
     by_there (Some d) = λ register small other written low. absurd (false≢true (sym (count_nothing lowered none (10 * place + register)) ∙ low))
 
 -- what a refused pass gives, which the caller hands on
-pub told_on : {T : Type 0} (result : Result T Refused) (e : Refused) (Tells : Refused → Type 0) → result ≡ Err e → Tells e → IfErr result Tells
-told_on (Ok done) e Tells is tells = tt
-told_on (Err refused) e Tells is tells =
+pub reported_on : {T : Type 0} (result : Result T Refused) (e : Refused) (Reports : Refused → Type 0) → result ≡ Err e → Reports e → IfErr result Reports
+reported_on (Ok done) e Reports is reports = tt
+reported_on (Err refused) e Reports is reports =
     let same : e ≡ refused = cc in
-    subst Tells same tells
+    subst Reports same reports

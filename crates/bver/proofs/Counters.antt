@@ -18,7 +18,7 @@ use Rattle.machine.specs.State.{State}
 use Rattle.machine.specs.Step.{Outcome, Next, Ask, Verdict, Trap, perform, insn_at, alu, writes, compares}
 use Rattle.bver.proofs.Arrivals.{After, LeadsTo, at_once, by_answer, is_after}
 use Rattle.bver_form.specs.Loops.{IsCounted, ComesIn, IsLoopFormed, holds, step_down, back_jump}
-use Rattle.bver_form.proofs.Told.{from_eqb}
+use Rattle.bver_form.proofs.Reported.{from_eqb}
 use Rattle.bver_pass.proofs.Loops.{holds_at, inside_of, loop_in}
 
 -- the number of a value, and 0 of any other

@@ -8,7 +8,7 @@ use Rattle.machine.specs.Step.{insn_at}
 use Rattle.absdom.specs.State.{StateValue}
 use Rattle.bver_form.specs.Jumps.{first_slot, target}
 use Rattle.bver_form.specs.Targets.{IsKept, place_at}
-use Rattle.bver_pass.specs.Table.{TableValue, AreEntries, HasEntry, knowledge_in}
+use Rattle.bver_pass.specs.StateTable.{TableValue, AreEntries, HasEntry, knowledge_in}
 use Rattle.bver.proofs.Visiting.{begins_first}
 use Rattle.bver_form.proofs.Kept.{lands_first}
 use Rattle.bver_form.proofs.Kept.{begins_inside}

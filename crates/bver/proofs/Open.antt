@@ -19,12 +19,12 @@ use Rattle.absdom.specs.declared.kinds.AbsKind.{AbsKind}
 use Rattle.absdom.specs.declared.kinds.AbsKind.TheVariants.{Num, Unset}
 use Rattle.absdom.specs.Kinds.{IsKindBelow}
 use Rattle.absdom_stack.specs.StackWords.{AreAllWhole, range_in}
-use Rattle.absdom.specs.State.{IsBelow, IsEntry, IsProper, IsWhole, StateValue, entry_kinds, kind_at}
-use Rattle.absdom.specs.Laws.{ApplyLeaves, BelowIsReflexive, CallLeaves, IsLeftBy, RefineShrinks}
+use Rattle.absdom.specs.State.{IsStateBelow, IsEntry, IsProper, IsWhole, StateValue, entry_kinds, kind_at}
+use Rattle.absdom.specs.Laws.{ApplyLeaves, BelowIsReflexive, CallLeaves, IsKnownLeftBy, StateRefineShrinks}
 use Rattle.bver_form.specs.Form.{IsFormed}
 use Rattle.bver_pass.specs.Justified.{HasStore, IsHead, IsOpen}
 use Rattle.bver_pass.specs.Visit.{VisitValue}
-use Rattle.bver.specs.Told.{IsBelowBut, IsClosed}
+use Rattle.bver.specs.Reported.{IsBelowBut, IsClosed}
 use Rattle.bver.proofs.Rings.{leads_by}
 use Rattle.bver.proofs.Rounds.{AreWords, alone, below_all, but_alone, kind_alone_at, kind_alone_but, marked, ranges_less, ranges_same, ranges_whole, unset_top, words_of}
 use Rattle.bver.proofs.Slots.{has_next}
@@ -48,7 +48,7 @@ nothing_whole = record {
   unset = λ w is. replicated 64 w (whole_range Bits64);
 }
 
-below_nothing : (a : StateValue) → AreWords a.ranges → IsBelow a nothing
+below_nothing : (a : StateValue) → AreWords a.ranges → IsStateBelow a nothing
 unfolding nothing
 below_nothing a words = record {
   kinds = λ r. subst (λ (k : AbsKind). IsKindBelow (kind_at a r) k) (sym (replicated 11 r Unset)) (unset_top (kind_at a r));
@@ -56,7 +56,7 @@ below_nothing a words = record {
   ranges = ranges_whole a.ranges (replicate 64 (whole_range Bits64)) words (λ w. replicated 64 w (whole_range Bits64));
 }
 
-words_below : (a : StateValue) → IsBelow a nothing → AreWords a.ranges
+words_below : (a : StateValue) → IsStateBelow a nothing → AreWords a.ranges
 unfolding nothing
 words_below a h w = subst (λ (r : Range). IsWithin (range_in a.ranges w) r) (replicated 64 w (whole_range Bits64)) (h.ranges w)
 
@@ -117,7 +117,7 @@ no_words r k w = refl
 
 -- ---- the pair
 
-pub pair_is_closed : ApplyLeaves → CallLeaves → RefineShrinks → BelowIsReflexive → (p : Program) → IsProgram p → IsFormed p → IsClosed p (λ slot. Some nothing) (λ slot. Some (stands_at p.loops slot))
+pub pair_is_closed : ApplyLeaves → CallLeaves → StateRefineShrinks → BelowIsReflexive → (p : Program) → IsProgram p → IsFormed p → IsClosed p (λ slot. Some nothing) (λ slot. Some (stands_at p.loops slot))
 pair_is_closed leaves calls shrinks reflexive p limits form = record {
   entered = record {
     known = record { kinds = entry_kinds; marks = []; ranges = [] };
@@ -125,7 +125,7 @@ pair_is_closed leaves calls shrinks reflexive p limits form = record {
     covered = below_nothing (record { kinds = entry_kinds; marks = []; ranges = [] }) (ranges_same []);
   };
   whole = λ slot. nothing_whole;
-  plain = λ slot apart a covered. subst (λ (s : StateValue). IsBelow a s) (sym (elsewhere p.loops slot apart)) (below_all a (words_below a covered));
+  plain = λ slot apart a covered. subst (λ (s : StateValue). IsStateBelow a s) (sym (elsewhere p.loops slot apart)) (below_all a (words_below a covered));
   opened = λ k d low a covered.
       let l = slice_index_or p.loops k d in
       subst (λ (s : StateValue). IsBelowBut l.register a s) (sym (at_head _ 0 p.loops k d limits.loops low)) (but_alone a l.register (Num (1, l.bound)) (words_below a covered));
@@ -136,6 +136,6 @@ pair_is_closed leaves calls shrinks reflexive p limits form = record {
       leads_by leaves calls shrinks reflexive v (λ k. Some nothing) a insn form (has_next v insn limits form begins) begins (λ k b edge some left. covers insn a whole b left);
 }
   where
-    covers : (insn : Insn) (a : StateValue) → IsWhole a → (b : StateValue) → IsLeftBy insn a b ⊎ IsBelow b a → IsBelow b nothing
+    covers : (insn : Insn) (a : StateValue) → IsWhole a → (b : StateValue) → IsKnownLeftBy insn a b ⊎ IsStateBelow b a → IsStateBelow b nothing
     covers insn a whole b (inl left) = below_nothing b (λ w. record { above = omega arith; below = omega (arith, (left.proper whole w).words) })
     covers insn a whole b (inr below) = below_nothing b (ranges_less b.ranges a.ranges [] below.ranges (words_of a whole))

@@ -15,7 +15,7 @@ use Rattle.absdom.specs.Laws.{BelowIsReflexive, BelowIsTransitive}
 use Rattle.absdom_stack.specs.Spill.{spill_of}
 use Rattle.bver_pass.specs.Heads.{AreHeadsAt}
 use Rattle.bver_pass.specs.Justified.{IsCoveredIfAny, IsPermitted, IsPermittedAt, region_at}
-use Rattle.bver_pass.specs.Table.{TableValue, AreEntries, knowledge_beside, knowledge_in}
+use Rattle.bver_pass.specs.StateTable.{TableValue, AreEntries, knowledge_beside, knowledge_in}
 use Rattle.bver_form.specs.Targets.{IsKept, IsPlain}
 use Rattle.bver_pass.specs.Visit.{AreWhole, IsExtended, IsInsnVisit, IsVisit, VisitValue, AreEntered, AreVisited, ArePermitted, visited_state}
 use Rattle.bver.proofs.Covering.{permitted_at_more}
@@ -44,7 +44,7 @@ pub record IsPassing (p : Program) (maps : Maps) (table : TableValue) (runs : Bo
   pub whole : AreWhole (knowledge_in table)
   pub state_whole : IsWhole state
   pub ahead : (k : ℕ) → slot ≤ k → known k ≡ knowledge_beside table runs next state k
-  pub behind : (k : ℕ) → k < slot → IsCoveredIfAny (knowledge_in table k) (known k)
+  pub following : (k : ℕ) → k < slot → IsCoveredIfAny (knowledge_in table k) (known k)
 
 -- ---- by cases
 
@@ -189,7 +189,7 @@ passing_next reflexive transitive p maps old new was runs before after regions r
   whole = v.visit.extended.whole h.whole;
   state_whole = v.after_whole;
   ahead = λ k past. revised_after h.known slot here onward k (omega (arith, past));
-  behind = behind;
+  following = following;
 }
   where
     next : ℕ
@@ -222,10 +222,10 @@ passing_next reflexive transitive p maps old new was runs before after regions r
         (λ on. subst (λ (o : Option StateValue). IsCoveredIfAny o (Some before)) (sym (known_plain new slot v.entries (λ kept. v.before_plain on (subst (λ (q : Program). IsKept q slot) program kept)))) tt)
         (λ off. covers_itself reflexive (knowledge_in new slot))
 
-    behind : (k : ℕ) → k < slot + 1 → IsCoveredIfAny (knowledge_in new k) (known k)
-    behind k below =
+    following : (k : ℕ) → k < slot + 1 → IsCoveredIfAny (knowledge_in new k) (known k)
+    following k below =
         revised_any (λ o. IsCoveredIfAny (knowledge_in new k) o) h.known slot here onward k
-        (λ before. subst (λ (o : Option StateValue). IsCoveredIfAny o (h.known k)) (sym (v.visit.extended.kept k before)) (h.behind k before))
+        (λ before. subst (λ (o : Option StateValue). IsCoveredIfAny o (h.known k)) (sym (v.visit.extended.kept k before)) (h.following k before))
         (λ same. subst (λ (i : ℕ). IsCoveredIfAny (knowledge_in new i) here) (sym same) here_covered)
         (λ beyond. absurd (omega (arith, below, beyond)))
 
@@ -235,7 +235,7 @@ passing_next reflexive transitive p maps old new was runs before after regions r
         (λ below.
         carried_any (λ o. IsCoveredIfAny o (known k)) new runs next after k
         (λ on same. absurd (omega (arith, same, below, further)))
-        (λ apart. behind k below))
+        (λ apart. following k below))
         (λ same. subst (λ (o : Option StateValue). IsCoveredIfAny (onward k) o) (sym (revised_after h.known slot here onward k (omega (arith, same)))) (covers_itself reflexive (onward k)))
         (λ beyond. subst (λ (o : Option StateValue). IsCoveredIfAny (onward k) o) (sym (revised_after h.known slot here onward k (omega (arith, beyond)))) (covers_itself reflexive (onward k)))
 
@@ -264,9 +264,9 @@ passing_skip reflexive transitive p maps table runs state regions settled slot n
   whole = h.whole;
   state_whole = h.state_whole;
   ahead = λ k past. h.ahead k (omega (arith, past));
-  behind = λ k below.
+  following = λ k below.
       by_order (IsCoveredIfAny (knowledge_in table k) (h.known k)) k slot
-      (λ before. h.behind k before)
+      (λ before. h.following k before)
       (λ same.
       subst (λ (o : Option StateValue). IsCoveredIfAny (knowledge_in table k) o) (sym (h.ahead k (omega (arith, same))))
       (carried_any (λ o. IsCoveredIfAny (knowledge_in table k) o) table runs h.next state k
@@ -330,7 +330,7 @@ passing_slot reflexive transitive p maps old new was runs before after regions r
       whole = g.whole;
       state_whole = g.state_whole;
       ahead = g.ahead;
-      behind = g.behind;
+      following = g.following;
     }
 passing_slot reflexive transitive p maps old new was runs before after regions region settled turn again slot (Some insn) begins limits own entries whole earlier now inside visit h =
     passing_next reflexive transitive p maps old new was runs before after regions region settled turn again slot insn
@@ -387,5 +387,5 @@ passing_none reflexive p maps table state regions settled entry whole = record {
   whole = entry.whole;
   state_whole = whole;
   ahead = λ k past. refl;
-  behind = λ k below. absurd (omega (arith, below));
+  following = λ k below. absurd (omega (arith, below));
 }

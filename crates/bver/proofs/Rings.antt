@@ -12,8 +12,8 @@ use Rattle.machine.specs.Step.{insn_at}
 use Rattle.absdom.specs.declared.cause.Cause.{Cause}
 use Rattle.absdom.specs.Edges.{Edges}
 use Rattle.absdom.specs.Effect.{after_insn}
-use Rattle.absdom.specs.State.{StateValue, IsBelow, after_call}
-use Rattle.absdom.specs.Laws.{ApplyLeaves, AreEdgesBelow, BelowIsReflexive, CallLeaves, IsLeftBy, RefineShrinks}
+use Rattle.absdom.specs.State.{StateValue, IsStateBelow, after_call}
+use Rattle.absdom.specs.Laws.{ApplyLeaves, AreEdgesBelow, BelowIsReflexive, CallLeaves, IsKnownLeftBy, StateRefineShrinks}
 use Rattle.absdom_stack.specs.Spill.{spill_of}
 use Rattle.bver_form.specs.Form.{IsFormed}
 use Rattle.bver_form.specs.Jumps.{IsFirstSlot, IsJump, target}
@@ -26,16 +26,16 @@ use Rattle.bver.proofs.Rounds.{marked}
 -- ---- what covers all except in the loop
 
 -- the slot lies in the loop after its head
-abbrev pub IsBehind : Loop → ℕ → Type 0
-IsBehind l k = (l.head < k) × (k ≤ l.back)
+abbrev pub IsAfterHead : Loop → ℕ → Type 0
+IsAfterHead l k = (l.head < k) × (k ≤ l.back)
 
 -- in the loop after its head another state than the one that covers all
 pub ring : Loop → (inner : ℕ → Option StateValue) → ℕ → Option StateValue
 ring l inner k = if nat_lt l.head k && nat_le k l.back then inner k else Some (marked [])
 
-pub ring_behind : (l : Loop) (inner : ℕ → Option StateValue) (k : ℕ) → IsBehind l k → ring l inner k ≡ inner k
+pub ring_after : (l : Loop) (inner : ℕ → Option StateValue) (k : ℕ) → IsAfterHead l k → ring l inner k ≡ inner k
 unfolding ring
-ring_behind l inner k behind = rw (after behind.0, upto behind.1) refl
+ring_after l inner k following = rw (after following.0, upto following.1) refl
   where
     after : l.head < k → nat_lt l.head k ≡ true
     after h = grind (arith, nat_tests, h)
@@ -43,9 +43,9 @@ ring_behind l inner k behind = rw (after behind.0, upto behind.1) refl
     upto : k ≤ l.back → nat_le k l.back ≡ true
     upto h = grind (arith, nat_tests, h)
 
-pub ring_any : (P : Option StateValue → Type 0) (l : Loop) (inner : ℕ → Option StateValue) (k : ℕ) → (IsBehind l k → P (inner k)) → P (Some (marked [])) → P (ring l inner k)
+pub ring_any : (P : Option StateValue → Type 0) (l : Loop) (inner : ℕ → Option StateValue) (k : ℕ) → (IsAfterHead l k → P (inner k)) → P (Some (marked [])) → P (ring l inner k)
 unfolding ring
-ring_any P l inner k behind other = by_tests (nat_lt l.head k) refl (nat_le k l.back) refl
+ring_any P l inner k following other = by_tests (nat_lt l.head k) refl (nat_le k l.back) refl
   where
     after : nat_lt l.head k ≡ true → l.head < k
     after h = grind (arith, nat_tests, h)
@@ -54,7 +54,7 @@ ring_any P l inner k behind other = by_tests (nat_lt l.head k) refl (nat_le k l.
     upto h = grind (arith, nat_tests, h)
 
     by_tests : (t : Bool) → nat_lt l.head k ≡ t → (u : Bool) → nat_le k l.back ≡ u → P (if t && u then inner k else Some (marked []))
-    by_tests true is true also = behind (after is, upto also)
+    by_tests true is true also = following (after is, upto also)
     by_tests true is false also = other
     by_tests false is u also = other
 
@@ -71,22 +71,22 @@ ring_more P l inner k none was = by_tests (nat_lt l.head k) (nat_le k l.back) wa
 -- ---- the slots to which an instruction leads
 
 -- what is known along each edge keeps what the instruction does not write, or says more
-pub leads_by : ApplyLeaves → CallLeaves → RefineShrinks → BelowIsReflexive → (v : VisitValue) (above : ℕ → Option StateValue) (a : StateValue) (insn : Insn) → IsFormed v.program → HasNext v insn → insn_at v.program v.slot ≡ Some insn
-    → ((k : ℕ) (b : StateValue) → IsEdge v.program v.slot k → IsSome (insn_at v.program k) → IsLeftBy insn a b ⊎ IsBelow b a → IsCovered b (above k))
+pub leads_by : ApplyLeaves → CallLeaves → StateRefineShrinks → BelowIsReflexive → (v : VisitValue) (above : ℕ → Option StateValue) (a : StateValue) (insn : Insn) → IsFormed v.program → HasNext v insn → insn_at v.program v.slot ≡ Some insn
+    → ((k : ℕ) (b : StateValue) → IsEdge v.program v.slot k → IsSome (insn_at v.program k) → IsKnownLeftBy insn a b ⊎ IsStateBelow b a → IsCovered b (above k))
     → LeadsBelow (spill_of v.program.version) above v.slot a insn
 leads_by leaves calls shrinks reflexive v above a insn form next begins cover = by_insn insn next begins cover
   where
     Covers : Insn → Type 0
-    Covers insn = (k : ℕ) (b : StateValue) → IsEdge v.program v.slot k → IsSome (insn_at v.program k) → IsLeftBy insn a b ⊎ IsBelow b a → IsCovered b (above k)
+    Covers insn = (k : ℕ) (b : StateValue) → IsEdge v.program v.slot k → IsSome (insn_at v.program k) → IsKnownLeftBy insn a b ⊎ IsStateBelow b a → IsCovered b (above k)
 
     goes_on : (insn : Insn) → IsNext v (slots_of insn) → GoesTo (flow_of insn) v.slot (v.slot + slots_of insn) (v.slot + slots_of insn) → insn_at v.program v.slot ≡ Some insn → Covers insn → GivesBelow (after_insn (spill_of v.program.version) a insn) (above (v.slot + slots_of insn))
     goes_on insn next goes begins cover = by_result (after_insn (spill_of v.program.version) a insn) (leaves (spill_of v.program.version) a insn)
       where
-        by_result : (r : Result StateValue Cause) → IfOk r (IsLeftBy insn a) → GivesBelow r (above (v.slot + slots_of insn))
+        by_result : (r : Result StateValue Cause) → IfOk r (IsKnownLeftBy insn a) → GivesBelow r (above (v.slot + slots_of insn))
         by_result (Err cause) left = tt
         by_result (Ok b) left = cover (v.slot + slots_of insn) b (record { insn = insn; begins = begins; goes = goes }) next.begins (inl left)
 
-    jumps : (insn : Insn) (distance : ℤ) (b : StateValue) → IsJump v.program v.slot distance → ((k : ℕ) → target v.slot distance ≡ pos k → GoesTo (flow_of insn) v.slot (v.slot + slots_of insn) k) → insn_at v.program v.slot ≡ Some insn → Covers insn → IsBelow b a → IsCovered b (knowledge_at above (target v.slot distance))
+    jumps : (insn : Insn) (distance : ℤ) (b : StateValue) → IsJump v.program v.slot distance → ((k : ℕ) → target v.slot distance ≡ pos k → GoesTo (flow_of insn) v.slot (v.slot + slots_of insn) k) → insn_at v.program v.slot ≡ Some insn → Covers insn → IsStateBelow b a → IsCovered b (knowledge_at above (target v.slot distance))
     jumps insn distance b jump goes begins cover below = by_target (target v.slot distance) refl jump.first_slot
       where
         by_target : (z : ℤ) → target v.slot distance ≡ z → IsFirstSlot v.program z → IsCovered b (knowledge_at above z)
@@ -103,11 +103,11 @@ leads_by leaves calls shrinks reflexive v above a insn form next begins cover = 
     by_insn (Jump comparison offset) next begins cover =
         by_edges (edges_of_comparison a comparison) (shrinks a comparison.condition comparison.width comparison.dst comparison.src)
       where
-        by_next : (o : Option StateValue) → IfSome o (λ edge. IsBelow edge a) → IsCoveredIfAny o (above (v.slot + 1))
+        by_next : (o : Option StateValue) → IfSome o (λ edge. IsStateBelow edge a) → IsCoveredIfAny o (above (v.slot + 1))
         by_next None below = tt
         by_next (Some b) below = cover (v.slot + 1) b (record { insn = Jump comparison offset; begins = begins; goes = inl refl }) next.begins (inr below)
 
-        by_taken : (o : Option StateValue) → IfSome o (λ edge. IsBelow edge a) → IsCoveredIfAny o (knowledge_at above (target v.slot offset))
+        by_taken : (o : Option StateValue) → IfSome o (λ edge. IsStateBelow edge a) → IsCoveredIfAny o (knowledge_at above (target v.slot offset))
         by_taken None below = tt
         by_taken (Some b) below = jumps (Jump comparison offset) offset b (form.allowed v.slot (Jump comparison offset) begins).jump (λ k is. inr is) begins cover below
 

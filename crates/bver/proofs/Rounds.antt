@@ -15,10 +15,10 @@ use Rattle.absdom.specs.declared.kinds.AbsKind.TheVariants.{Unset, Num, Ptr, Map
 use Rattle.absdom.specs.Kinds.{IsKindBelow}
 use Rattle.absdom_stack.specs.Marks.{AreMarkedIn}
 use Rattle.absdom_stack.specs.StackWords.{AreAllWhole, AreRangesWithin}
-use Rattle.absdom.specs.State.{StateValue, IsBelow, IsWhole, IsProper, kind_at, kind_in}
-use Rattle.absdom.specs.Laws.{BelowIsTransitive, IsLeftBy}
+use Rattle.absdom.specs.State.{StateValue, IsStateBelow, IsWhole, IsProper, kind_at, kind_in}
+use Rattle.absdom.specs.Laws.{BelowIsTransitive, IsKnownLeftBy}
 use Rattle.bver_form.specs.Loops.{holds}
-use Rattle.bver.specs.Told.{IsBelowBut}
+use Rattle.bver.specs.Reported.{IsBelowBut}
 use Rattle.bver_pass.specs.Heads.{is_number}
 use Rattle.bver_pass.specs.Justified.{HasStore, IsHead, IsOpen, IsStoreAt, IsWrittenBy, IsWrittenIn}
 
@@ -90,14 +90,14 @@ padded_at (suc r) k = padded_at r k
 unfoldable pub alone : ℕ → AbsKind → StateValue
 alone r k = record { kinds = padded r k; marks = []; ranges = [] }
 
-pub below_alone : (a : StateValue) (r : ℕ) (k : AbsKind) → AreWords a.ranges → IsKindBelow (kind_at a r) k → IsBelow a (alone r k)
+pub below_alone : (a : StateValue) (r : ℕ) (k : AbsKind) → AreWords a.ranges → IsKindBelow (kind_at a r) k → IsStateBelow a (alone r k)
 unfolding alone
 below_alone a r k words h = record { kinds = padded_above a.kinds r k h; marks = λ place is. absurd (none is); ranges = words }
   where
     none : {P : Type 0} → false ≡ true → P
     none is = cc
 
-pub kind_alone : (a : StateValue) (r : ℕ) (k : AbsKind) → IsBelow a (alone r k) → IsKindBelow (kind_at a r) k
+pub kind_alone : (a : StateValue) (r : ℕ) (k : AbsKind) → IsStateBelow a (alone r k) → IsKindBelow (kind_at a r) k
 unfolding alone
 kind_alone a r k h = subst (λ (j : AbsKind). IsKindBelow (kind_at a r) j) (padded_at r k) (h.kinds r)
 
@@ -132,7 +132,7 @@ kind_less transitive j k l g h =
     one : AbsKind → StateValue
     one k = record { kinds = k ∷ []; marks = []; ranges = [] }
 
-    ones : {j k : AbsKind} → IsKindBelow j k → IsBelow (one j) (one k)
+    ones : {j k : AbsKind} → IsKindBelow j k → IsStateBelow (one j) (one k)
     ones {j} {k} g = record { kinds = each; marks = λ place is. is; ranges = ranges_same [] }
       where
         each : (r : ℕ) → IsKindBelow (kind_in (j ∷ []) r) (kind_in (k ∷ []) r)
@@ -143,20 +143,20 @@ kind_less transitive j k l g h =
 unfoldable pub marked : List Bool → StateValue
 marked marks = record { kinds = []; marks = marks; ranges = [] }
 
-pub below_marked : (a : StateValue) (marks : List Bool) → AreWords a.ranges → AreMarkedIn marks a.marks → IsBelow a (marked marks)
+pub below_marked : (a : StateValue) (marks : List Bool) → AreWords a.ranges → AreMarkedIn marks a.marks → IsStateBelow a (marked marks)
 unfolding marked
 below_marked a marks words h = record { kinds = λ q. unset_top (kind_at a q); marks = h; ranges = words }
 
-pub marks_marked : (a : StateValue) (marks : List Bool) → IsBelow a (marked marks) → AreMarkedIn marks a.marks
+pub marks_marked : (a : StateValue) (marks : List Bool) → IsStateBelow a (marked marks) → AreMarkedIn marks a.marks
 unfolding marked
 marks_marked a marks h = h.marks
 
 -- what covers every state whose ranges are of words
-pub below_all : (a : StateValue) → AreWords a.ranges → IsBelow a (marked [])
+pub below_all : (a : StateValue) → AreWords a.ranges → IsStateBelow a (marked [])
 unfolding marked
 below_all a words = record { kinds = λ q. unset_top (kind_at a q); marks = λ place is. absurd (false≢true is); ranges = words }
 
-pub words_all : (a : StateValue) → IsBelow a (marked []) → AreWords a.ranges
+pub words_all : (a : StateValue) → IsStateBelow a (marked []) → AreWords a.ranges
 unfolding marked
 words_all a h = h.ranges
 
@@ -164,18 +164,18 @@ words_all a h = h.ranges
 pub ranged : List Range → StateValue
 ranged ranges = record { kinds = []; marks = []; ranges = ranges }
 
-pub below_ranged : (a : StateValue) (ranges : List Range) → AreRangesWithin a.ranges ranges → IsBelow a (ranged ranges)
+pub below_ranged : (a : StateValue) (ranges : List Range) → AreRangesWithin a.ranges ranges → IsStateBelow a (ranged ranges)
 unfolding ranged
 below_ranged a ranges h = record { kinds = λ q. unset_top (kind_at a q); marks = λ place is. absurd (false≢true is); ranges = h }
 
-pub ranges_ranged : (a : StateValue) (ranges : List Range) → IsBelow a (ranged ranges) → AreRangesWithin a.ranges ranges
+pub ranges_ranged : (a : StateValue) (ranges : List Range) → IsStateBelow a (ranged ranges) → AreRangesWithin a.ranges ranges
 unfolding ranged
 ranges_ranged a ranges h = h.ranges
 
 -- ---- what is known in a loop
 
 -- a smaller state says no less
-pub round_less : BelowIsTransitive → (p : Program) (l : Loop) (slot : ℕ) (head a b : StateValue) → IsBelow a b → IsRound p l slot head b → IsRound p l slot head a
+pub round_less : BelowIsTransitive → (p : Program) (l : Loop) (slot : ℕ) (head a b : StateValue) → IsStateBelow a b → IsRound p l slot head b → IsRound p l slot head a
 round_less transitive p l slot head a b below h = record {
   unwritten = λ register out. kind_less transitive (kind_at a register) (kind_at b register) (kind_at head register) (below.kinds register) (h.unwritten register out);
   counter = kind_less transitive (kind_at a l.register) (kind_at b l.register) (Num (counter_range l slot)) (below.kinds l.register) h.counter;
@@ -185,7 +185,7 @@ round_less transitive p l slot head a b below h = record {
 }
 
 -- an instruction of the loop that keeps what it does not write keeps what the head says, if it does not count
-pub round_left : (p : Program) (l : Loop) (slot next : ℕ) (head a b : StateValue) (insn : Insn) → IsTrue (holds l slot) → insn_at p slot ≡ Some insn → is_written insn l.register ≡ false → counter_range l next ≡ counter_range l slot → IsWhole a → IsLeftBy insn a b → IsRound p l slot head a → IsRound p l next head b
+pub round_left : (p : Program) (l : Loop) (slot next : ℕ) (head a b : StateValue) (insn : Insn) → IsTrue (holds l slot) → insn_at p slot ≡ Some insn → is_written insn l.register ≡ false → counter_range l next ≡ counter_range l slot → IsWhole a → IsKnownLeftBy insn a b → IsRound p l slot head a → IsRound p l next head b
 round_left p l slot next head a b insn inside begins counter same whole left h = record {
   unwritten = λ register out.
       subst (λ (k : AbsKind). IsKindBelow k (kind_at head register)) (sym (left.kinds register (unwritten_by register out))) (h.unwritten register out);
@@ -244,7 +244,7 @@ pub closes : (p : Program) (l : Loop) (head edge : StateValue) → IsWhole edge 
     → ((register : ℕ) → register ≢ l.register → IsWrittenIn p l register → IsTrue (is_number (kind_at head register)) → IsTrue (is_number (kind_at edge register)))
     → ((register : ℕ) → IsWrittenIn p l register ⊎ (IsWrittenIn p l register → ⊥)) → ((register : ℕ) → register ≡ l.register ⊎ register ≢ l.register)
     → (HasStore p l → AreAllWhole head.ranges) → ((HasStore p l → ⊥) → AreRangesWithin edge.ranges head.ranges) → HasStore p l ⊎ (HasStore p l → ⊥)
-    → IsBelow edge head
+    → IsStateBelow edge head
 closes p l head edge whole stands outside counter marks numbers writes same wide kept stores = record {
   kinds = λ register. by_writes register (writes register) (same register);
   marks = marks;

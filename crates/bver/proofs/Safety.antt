@@ -14,7 +14,7 @@ use Rattle.machine.specs.Sizes.{Maps, kind_of_map}
 use Rattle.machine.specs.declared.calls.Call.{Call}
 use Rattle.machine.specs.declared.values.Value.{Value}
 use Rattle.machine.specs.declared.values.Value.TheVariants.{Unset as Nothing, Num as Number, Ptr as Pointer, Map as MapOf}
-use Rattle.machine.specs.Memory.{Header, IsHeader}
+use Rattle.machine.specs.Memory.{Header, IsProgramHeader}
 use Rattle.machine.specs.State.{State, entry_state}
 use Rattle.machine.specs.declared.helpers.Helper.{Helper}
 use Rattle.machine.specs.Helpers.{helper_of, takes_kind}
@@ -128,7 +128,7 @@ counted_from : Laws → (cost : Insn → ℕ) (p : Program) (maps : Maps) (h : I
 counted_from laws cost p maps h header spent s t None at is some e counted = absurd cc
 counted_from laws cost p maps h header spent s t (Some insn) at is some e counted = counted_next laws cost p maps h header spent s t insn at is e counted
 
-counts : Laws → (cost : Insn → ℕ) (p : Program) (maps : Maps) (h : IsJustified p maps) (header : Header) (port : ℕ) (calls : List Call) (n : ℕ) (s : State) → IsHeader header → port < 32 → (path : Path p header port calls n s) → Counted cost p (cost_of_path cost path) s
+counts : Laws → (cost : Insn → ℕ) (p : Program) (maps : Maps) (h : IsJustified p maps) (header : Header) (port : ℕ) (calls : List Call) (n : ℕ) (s : State) → IsProgramHeader header → port < 32 → (path : Path p header port calls n s) → Counted cost p (cost_of_path cost path) s
 counts laws cost p maps h header port calls n s good low entry = counted_first laws cost p maps h port (stands laws p maps h header port calls n s good low entry)
 counts laws cost p maps h header port calls n s good low (moves {n = m} {s = r} path e) =
     let there = stands laws p maps h header port calls m r good low path in
@@ -157,7 +157,7 @@ costs_one None some = absurd cc
 costs_one (Some insn) some = refl
 
 -- a path costs its steps
-costs_steps : Laws → (p : Program) (maps : Maps) (h : IsJustified p maps) (header : Header) (port : ℕ) (calls : List Call) (n : ℕ) (s : State) → IsHeader header → port < 32 → (path : Path p header port calls n s) → cost_of_path one path ≡ n
+costs_steps : Laws → (p : Program) (maps : Maps) (h : IsJustified p maps) (header : Header) (port : ℕ) (calls : List Call) (n : ℕ) (s : State) → IsProgramHeader header → port < 32 → (path : Path p header port calls n s) → cost_of_path one path ≡ n
 costs_steps laws p maps h header port calls n s good low entry = refl
 costs_steps laws p maps h header port calls n s good low (moves {n = m} {s = r} path e) =
     let there = stands laws p maps h header port calls m r good low path in

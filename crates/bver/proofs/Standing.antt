@@ -18,7 +18,7 @@ use Rattle.machine.specs.Sizes.{Maps}
 use Rattle.machine.specs.declared.calls.Call.{Call}
 use Rattle.machine.specs.declared.values.Value.{Value}
 use Rattle.machine.specs.declared.values.Value.TheVariants.{Unset as Nothing, Num as Number, Ptr as Pointer, Map as MapOf}
-use Rattle.machine.specs.Memory.{Header, IsHeader}
+use Rattle.machine.specs.Memory.{Header, IsProgramHeader}
 use Rattle.machine.specs.Laws.{InstructionsLeave, StepPerforms}
 use Rattle.machine.specs.State.{State, state, entry_state}
 use Rattle.machine.specs.declared.helpers.Helper.{Helper}
@@ -31,8 +31,8 @@ use Rattle.absdom.specs.declared.kinds.AbsKind.TheVariants.{Unset, Num, Ptr, Map
 use Rattle.absdom.specs.Edges.{Edges}
 use Rattle.absdom.specs.State.{StateValue, after_call, kind_at}
 use Rattle.absdom.specs.Effect.{after_insn}
-use Rattle.absdom.specs.Fits.{Fits, FitsKind, FitsEdge, IsSound, IsIndex, GoesStraight, TakesEdge, edge_where}
-use Rattle.absdom.specs.Laws.{BelowFits, CallFits, EntryFits, ApplyFits, RefineFits}
+use Rattle.absdom.specs.Fits.{Fits, FitsKind, FitsEdge, IsStateSound, IsIndex, GoesStraight, TakesEdge, edge_where}
+use Rattle.absdom.specs.Laws.{BelowFits, CallFits, EntryFits, ApplyFits, StateRefineFits}
 use Rattle.absdom_stack.specs.declared.spill.Spill.{Spill}
 use Rattle.absdom_stack.specs.Spill.{spill_of}
 use Rattle.bver_form.specs.Form.{IsAllowed, IsFormed}
@@ -48,7 +48,7 @@ pub record Laws : Type 0 where
   pub entry : EntryFits
   pub apply : ApplyFits
   pub call : CallFits
-  pub refine : RefineFits
+  pub refine : StateRefineFits
   pub performs : StepPerforms
   pub leaves : InstructionsLeave
   pub begins : BeginsWithinWeight
@@ -79,7 +79,7 @@ arrives : BelowFits → (table : ℕ → Option StateValue) (t : State) (a : Sta
 arrives below table t a fits covered = stands_by below table t a (table t.slot) refl fits covered
 
 -- on to a slot
-goes_on : BelowFits → (table : ℕ → Option StateValue) (next : ℕ) (o : Outcome) (r : Result StateValue Cause) → IsSound o next r → IsResultCovered r (table next) → Continues table o
+goes_on : BelowFits → (table : ℕ → Option StateValue) (next : ℕ) (o : Outcome) (r : Result StateValue Cause) → IsStateSound o next r → IsResultCovered r (table next) → Continues table o
 goes_on below table next o (Err cause) sound covered = absurd covered
 goes_on below table next (Next t) (Ok a) sound covered =
     arrives below table t a sound.1 (subst (λ (k : ℕ). IsCovered a (table k)) (sym sound.0) covered)
@@ -178,11 +178,11 @@ index_of maps (negsuc n) h = absurd cc
 -- ---- the step at an instruction
 
 -- one that goes on to the next
-proceeds : Laws → (spill : Spill) (table : ℕ → Option StateValue) (header : Header) (s : State) (a : StateValue) (insn : Insn) → IsHeader header → Fits s a → GoesStraight insn → Proceeds spill table s.slot a insn → Continues table (perform header s insn)
+proceeds : Laws → (spill : Spill) (table : ℕ → Option StateValue) (header : Header) (s : State) (a : StateValue) (insn : Insn) → IsProgramHeader header → Fits s a → GoesStraight insn → Proceeds spill table s.slot a insn → Continues table (perform header s insn)
 proceeds laws spill table header s a insn good fits straight h =
     goes_on laws.below table (s.slot + slots_of insn) (perform header s insn) (after_insn spill a insn) (laws.apply spill header s a insn good straight fits) h
 
-continues_at : Laws → (spill : Spill) (p : Program) (maps : Maps) (table : ℕ → Option StateValue) (header : Header) (s : State) (a : StateValue) (insn : Insn) → IsHeader header → Fits s a → IsAllowed p s.slot insn → IsInsn insn → IsPermitted spill maps table s.slot a insn → Continues table (perform header s insn)
+continues_at : Laws → (spill : Spill) (p : Program) (maps : Maps) (table : ℕ → Option StateValue) (header : Header) (s : State) (a : StateValue) (insn : Insn) → IsProgramHeader header → Fits s a → IsAllowed p s.slot insn → IsInsn insn → IsPermitted spill maps table s.slot a insn → Continues table (perform header s insn)
 continues_at laws spill p maps table header s a (Alu op width dst src) good fits allowed is_insn h = proceeds laws spill table header s a (Alu op width dst src) good fits allowed.leaves_frame h
 continues_at laws spill p maps table header s a (Negate width dst) good fits allowed is_insn h = proceeds laws spill table header s a (Negate width dst) good fits allowed.leaves_frame h
 continues_at laws spill p maps table header s a (MoveSigned extension dst src) good fits allowed is_insn h = proceeds laws spill table header s a (MoveSigned extension dst src) good fits allowed.leaves_frame h
@@ -200,7 +200,7 @@ continues_at laws spill p maps table header s a (insns.Call callee number) good 
     calls_on laws.below laws.call p.version maps table s a callee number allowed.supported h.0 fits h.1
 continues_at laws spill p maps table header s a Exit good fits allowed is_insn h = exits_with table (s.registers 0) (kind_at a 0) (fits.registers 0) h
 
-continues_from : Laws → (p : Program) (maps : Maps) (h : IsJustified p maps) (header : Header) (s : State) (at : Stands h.table s) (o : Option Insn) → IsHeader header → insn_at p s.slot ≡ o → IsPermittedAt (spill_of p.version) maps h.table s.slot (Some at.known) o → Continues h.table (perform_at header s o)
+continues_from : Laws → (p : Program) (maps : Maps) (h : IsJustified p maps) (header : Header) (s : State) (at : Stands h.table s) (o : Option Insn) → IsProgramHeader header → insn_at p s.slot ≡ o → IsPermittedAt (spill_of p.version) maps h.table s.slot (Some at.known) o → Continues h.table (perform_at header s o)
 continues_from laws p maps h header s at None good is permitted = absurd permitted
 continues_from laws p maps h header s at (Some insn) good is permitted =
     continues_at laws (spill_of p.version) p maps h.table header s at.known insn good at.fits (h.formed.allowed s.slot insn is) (insn_in false p.slots s.slot insn h.limits.code is) permitted
@@ -229,7 +229,7 @@ pub permitted_here : (p : Program) (maps : Maps) (h : IsJustified p maps) (s : S
 permitted_here p maps h s at =
     subst (λ (k : Option StateValue). IsPermittedAt (spill_of p.version) maps h.table s.slot k (insn_at p s.slot)) at.is (h.permitted s.slot)
 
-pub continues : Laws → (p : Program) (maps : Maps) (h : IsJustified p maps) (header : Header) (s : State) → IsHeader header → Stands h.table s → Continues h.table (step p header s)
+pub continues : Laws → (p : Program) (maps : Maps) (h : IsJustified p maps) (header : Header) (s : State) → IsProgramHeader header → Stands h.table s → Continues h.table (step p header s)
 continues laws p maps h header s good at =
     rw (performs_here laws.performs p maps h header s)
     (continues_from laws p maps h header s at (insn_at p s.slot) good refl (permitted_here p maps h s at))
@@ -239,7 +239,7 @@ begins_at : Laws → (p : Program) (maps : Maps) (h : IsJustified p maps) (port 
 begins_at laws p maps h port low =
     arrives laws.below h.table (entry_state port) h.entered.known (laws.entry h.entered.known port h.entered.entry low) h.entered.covered
 
-pub stands : Laws → (p : Program) (maps : Maps) (h : IsJustified p maps) (header : Header) (port : ℕ) (calls : List Call) (n : ℕ) (s : State) → IsHeader header → port < 32 → Path p header port calls n s → Stands h.table s
+pub stands : Laws → (p : Program) (maps : Maps) (h : IsJustified p maps) (header : Header) (port : ℕ) (calls : List Call) (n : ℕ) (s : State) → IsProgramHeader header → port < 32 → Path p header port calls n s → Stands h.table s
 stands laws p maps h header port calls n s good low entry = begins_at laws p maps h port low
 stands laws p maps h header port calls n s good low (moves {n = m} {s = r} path e) =
     subst (λ (o : Outcome). Continues h.table o) e (continues laws p maps h header r good (stands laws p maps h header port calls m r good low path))

@@ -19,20 +19,20 @@ use Rattle.absdom_num.specs.Tables.{alu_range, single_range}
 use Rattle.absdom.specs.declared.kinds.AbsKind.{AbsKind}
 use Rattle.absdom.specs.declared.kinds.AbsKind.TheVariants.{Unset, Num, Ptr, Map}
 use Rattle.absdom.specs.Kinds.{IsKindBelow}
-use Rattle.absdom.specs.State.{StateValue, IsBelow, IsProper, IsWhole, kind_at, with_kind}
+use Rattle.absdom.specs.State.{StateValue, IsStateBelow, IsProper, IsWhole, kind_at, with_kind}
 use Rattle.absdom_stack.specs.StackWords.{AreRangesWithin}
 use Rattle.absdom.specs.Effect.{sum_kind, with_result}
-use Rattle.absdom.specs.Laws.{ApplyLeaves, BelowIsReflexive, BelowIsTransitive, CallLeaves, IsLeftBy, RefineShrinks}
+use Rattle.absdom.specs.Laws.{ApplyLeaves, BelowIsReflexive, BelowIsTransitive, CallLeaves, IsKnownLeftBy, StateRefineShrinks}
 use Rattle.absdom_stack.specs.Spill.{spill_of}
 use Rattle.bver_form.specs.Form.{IsFormed}
-use Rattle.bver_form.specs.Loops.{ComesIn, IsEdge, IsInside, IsLoopFormed, holds, step_down}
+use Rattle.bver_form.specs.Loops.{ComesIn, IsEdge, IsLoopInside, IsLoopFormed, holds, step_down}
 use Rattle.bver_pass.specs.Heads.{AreWidenedRanges, IsWidened, IsWidenedKind, counts, keeps, opens, retains, forgets}
 use Rattle.bver_pass.specs.Justified.{HasStore, IsCovered, IsHead, IsWrittenBy, IsWrittenIn}
 use Rattle.bver_pass.specs.Leading.{GivesBelow, LeadsBelow}
 use Rattle.bver_pass.specs.Visit.{HasNext, VisitValue}
 use Rattle.bver_pass.proofs.Loops.{holds_at, inside_of}
 use Rattle.bver.proofs.Widening.{kind_below-refl}
-use Rattle.bver.proofs.Rings.{leads_by, ring, ring_any, ring_behind}
+use Rattle.bver.proofs.Rings.{leads_by, ring, ring_any, ring_after}
 use Rattle.bver.proofs.Rounds.{AreWords, IsRound, below_all, counter_range, ranges_less, ranges_same, round_left, round_less, round_there, words_of}
 use Rattle.bver.proofs.Steps.{step_within}
 
@@ -42,7 +42,7 @@ pub record Leaves : Type 0 where
   pub transitive : BelowIsTransitive
   pub applies : ApplyLeaves
   pub calls : CallLeaves
-  pub shrinks : RefineShrinks
+  pub shrinks : StateRefineShrinks
 
 -- ---- the counter's range
 
@@ -75,7 +75,7 @@ round_head reflexive p l h ordered whole head = record {
 
 -- ---- at the head of a loop that lies inside
 
-written_inside : (p : Program) (l m : Loop) (register : ℕ) → IsInside m l → IsWrittenIn p m register → IsWrittenIn p l register
+written_inside : (p : Program) (l m : Loop) (register : ℕ) → IsLoopInside m l → IsWrittenIn p m register → IsWrittenIn p l register
 written_inside p l m register inside w =
     let within = inside_of m w.slot w.inside in
     record { slot = w.slot; inside = holds_at l w.slot (omega (arith, inside.0, within.0)) (omega (arith, inside.1, within.1)); writes = w.writes }
@@ -92,7 +92,7 @@ counter_written p m ordered formed = record {
     writes = grind (arith, nat_tests)
 
 -- but it writes no counter of a loop around it
-counter_apart : (p : Program) (l m : Loop) → IsLoopFormed p l → IsLoopFormed p m → IsInside m l → IsWrittenIn p m l.register → ⊥
+counter_apart : (p : Program) (l m : Loop) → IsLoopFormed p l → IsLoopFormed p m → IsLoopInside m l → IsWrittenIn p m l.register → ⊥
 counter_apart p l m outer inner inside w = by_place (cases_lt (w.slot + 1) l.back)
   where
     within : (m.head ≤ w.slot) × (w.slot ≤ m.back)
@@ -115,7 +115,7 @@ kind_kept p m lowered place register before after other out (opens o written is)
 kind_kept p m lowered place register before after other out (keeps o w is) = is
 
 -- if an inner loop stores, so does the loop around it
-stored_inside : (p : Program) (l m : Loop) → IsInside m l → HasStore p m → HasStore p l
+stored_inside : (p : Program) (l m : Loop) → IsLoopInside m l → HasStore p m → HasStore p l
 stored_inside p l m inside s =
     let within = inside_of m s.slot s.inside in
     record { slot = s.slot; inside = holds_at l s.slot (omega (arith, inside.0, within.0)) (omega (arith, inside.1, within.1)); stores = s.stores }
@@ -140,7 +140,7 @@ widened_kept p m lowered place register before after p_before p_after widened ot
       ]
     ]
 
-pub round_widened : (p : Program) (l m : Loop) (lowered : List Bool) (place slot : ℕ) (h before after : StateValue) → m.head < m.back → IsLoopFormed p l → IsLoopFormed p m → IsInside m l → IsWhole before → IsWhole after → IsWidened p m lowered place before after → IsRound p l slot h before → IsRound p l slot h after
+pub round_widened : (p : Program) (l m : Loop) (lowered : List Bool) (place slot : ℕ) (h before after : StateValue) → m.head < m.back → IsLoopFormed p l → IsLoopFormed p m → IsLoopInside m l → IsWhole before → IsWhole after → IsWidened p m lowered place before after → IsRound p l slot h before → IsRound p l slot h after
 round_widened p l m lowered place slot h before after ordered outer inner inside p_before p_after widened round = record {
   unwritten = λ register out.
       subst (λ (k : AbsKind). IsKindBelow k (kind_at h register))
@@ -163,10 +163,10 @@ round_widened p l m lowered place slot h before after ordered outer inner inside
 
 -- a table of the loop's slots that says no more than the head says of what the loop does not write
 abbrev pub IsAround : Program → Loop → (head : StateValue) → (around : ℕ → StateValue) → Type 0
-IsAround p l head around = (slot : ℕ) (b : StateValue) → IsRound p l slot head b → IsBelow b (around slot)
+IsAround p l head around = (slot : ℕ) (b : StateValue) → IsRound p l slot head b → IsStateBelow b (around slot)
 
 -- the state after an instruction in a whole state has ranges of words
-moved_words : (a b : StateValue) (insn : Insn) → IsWhole a → IsLeftBy insn a b ⊎ IsBelow b a → AreWords b.ranges
+moved_words : (a b : StateValue) (insn : Insn) → IsWhole a → IsKnownLeftBy insn a b ⊎ IsStateBelow b a → AreWords b.ranges
 moved_words a b insn whole (inl left) k = record { above = omega arith; below = omega (arith, (left.proper whole k).words) }
 moved_words a b insn whole (inr below) k = ranges_less b.ranges a.ranges [] below.ranges (words_of a whole) k
 
@@ -179,7 +179,7 @@ leads_outside laws v l inner a insn form next begins comes outside whole =
     leads_by laws.applies laws.calls laws.shrinks laws.reflexive v (ring l inner) a insn form next begins
     (λ k b edge some moves.
     ring_any (λ o. IsCovered b o) l inner k
-    (λ behind. absurd (omega (arith, behind.0, (comes k edge some).to_head outside (holds_at l k (omega (arith, behind.0)) behind.1))))
+    (λ following. absurd (omega (arith, following.0, (comes k edge some).to_head outside (holds_at l k (omega (arith, following.0)) following.1))))
     (below_all b (moved_words a b insn whole moves)))
 
 -- in the loop, except for the instruction that counts and the jump back
@@ -192,7 +192,7 @@ leads_around laws v l h a around insn form next begins comes formed above before
     leads_by laws.applies laws.calls laws.shrinks laws.reflexive v (ring l (λ k. Some (around k))) a insn form next begins
     (λ k b edge some moves.
     ring_any (λ o. IsCovered b o) l (λ k. Some (around k)) k
-    (λ behind. covers k b (there k b (λ at_back. apart ((comes k edge some).to_back at_back)) moves))
+    (λ following. covers k b (there k b (λ at_back. apart ((comes k edge some).to_back at_back)) moves))
     (below_all b (moved_words a b insn whole moves)))
   where
     inside : IsTrue (holds l v.slot)
@@ -204,7 +204,7 @@ leads_around laws v l h a around insn form next begins comes formed above before
     same : (k : ℕ) → k ≢ l.back → counter_range l k ≡ counter_range l v.slot
     same k other = range_ahead l k other ∙ sym (range_ahead l v.slot (λ at_back. omega (arith, at_back, before)))
 
-    there : (k : ℕ) (b : StateValue) → k ≢ l.back → IsLeftBy insn a b ⊎ IsBelow b a → IsRound v.program l k h b
+    there : (k : ℕ) (b : StateValue) → k ≢ l.back → IsKnownLeftBy insn a b ⊎ IsStateBelow b a → IsRound v.program l k h b
     there k b other (inl left) = round_left v.program l v.slot k h a b insn inside begins uncounted (same k other) whole left round
     there k b other (inr below) = round_less laws.transitive v.program l k h b a below (round_there v.program l v.slot k h a (same k other) round)
 
@@ -235,7 +235,7 @@ leads_counted v l h a around limits formed last whole covers round =
     by_kind : (k : AbsKind) → IsKindBelow k (Num (1, l.bound)) → IsProper k → GivesBelow (with_result a l.register (sum_kind Bits64 k (Num (single_range (2 ^ 64 - 1))))) (ring l (λ k. Some (around k)) (v.slot + 1))
     by_kind Unset below proper = absurd below
     by_kind (Num range) below proper =
-        subst (λ (o : Option StateValue). IsCovered (counted range) o) (sym (ring_behind l (λ k. Some (around k)) (v.slot + 1) (omega (arith, last, limits.ordered), omega (arith, last))))
+        subst (λ (o : Option StateValue). IsCovered (counted range) o) (sym (ring_after l (λ k. Some (around k)) (v.slot + 1) (omega (arith, last, limits.ordered), omega (arith, last))))
         (covers (v.slot + 1) (counted range) (there range below proper))
     by_kind (Ptr region offsets) below proper = absurd below
     by_kind (Map index) below proper = absurd below

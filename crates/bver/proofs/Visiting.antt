@@ -15,8 +15,8 @@ use Rattle.absdom_stack.specs.Spill.{spill_of}
 use Rattle.bver_form.specs.Form.{IsFormed}
 use Rattle.bver_pass.specs.Heads.{AreHeadsAt, IsDeclared}
 use Rattle.bver_pass.specs.Justified.{IsCovered, IsCoveredIfAny, IsEntered, IsHead, IsPermittedAt, IsJudged, region_at}
-use Rattle.bver_pass.specs.Visit.{AreWhole, IsGrown, IsPlaced, IsExtended, AreEntered, AreHeadsBefore, AreVisited, ArePermitted}
-use Rattle.bver_pass.specs.Table.{TableValue}
+use Rattle.bver_pass.specs.Visit.{AreWhole, IsTableGrown, AreFactsPlaced, IsExtended, AreEntered, AreHeadsBefore, AreVisited, ArePermitted}
+use Rattle.bver_pass.specs.StateTable.{TableValue}
 use Rattle.bver.proofs.Counters.{same_place}
 use Rattle.bver_pass.proofs.Loops.{loop_in}
 use Rattle.bver.proofs.Covering.{permitted_at_more}
@@ -32,9 +32,9 @@ extended_before slot old new f = record { program = f.program; grown = f.grown; 
 
 -- what is known grew from a slot, at slots at which instructions begin
 pub record Grows (p : Program) (from : ℕ) (old new : ℕ → Option StateValue) : Type 0 where
-  pub grown : IsGrown old new
+  pub grown : IsTableGrown old new
   pub kept : (k : ℕ) → k < from → new k ≡ old k
-  pub placed : IsPlaced p new
+  pub placed : AreFactsPlaced p new
   pub whole : AreWhole new
 
 entered_more : BelowIsTransitive → (o n : Option StateValue) → IsCoveredIfAny o n → IsEntered o → IsEntered n
@@ -81,7 +81,7 @@ permitted_next transitive p maps old new slot v f permitted =
 -- ---- after all visits
 
 -- nothing is known past the end
-past_none : (p : Program) (known : ℕ → Option StateValue) (slot : ℕ) → IsPlaced p known → length p.slots ≤ slot → known slot ≡ None
+past_none : (p : Program) (known : ℕ → Option StateValue) (slot : ℕ) → AreFactsPlaced p known → length p.slots ≤ slot → known slot ≡ None
 past_none p known slot placed past = by_known (known slot) (placed slot)
   where
     by_known : (o : Option StateValue) → (IsSome o → IsSome (insn_at p slot)) → o ≡ None

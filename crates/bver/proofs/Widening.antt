@@ -9,12 +9,12 @@ use Rattle.bpf.specs.Program.{Program, insn_at}
 use Rattle.bpf_insn.specs.declared.flow.Flow.{Flow}
 use Rattle.bpf_insn.specs.declared.flow.Flow.TheVariants.{GoesOn, Branches, Jumps, Calls, Ends, Unsupported}
 use Rattle.bpf_insn.specs.declared.insn.Insn.{Insn}
-use Rattle.bpf_insn.specs.Flow.{flow_of, written_register, is_named, is_clobbered}
+use Rattle.bpf_insn.specs.Flow.{flow_of, written_register, is_register_named, is_clobbered}
 use Rattle.absdom_num.specs.Tables.{whole_range}
 use Rattle.absdom.specs.declared.kinds.AbsKind.{AbsKind}
 use Rattle.absdom.specs.declared.kinds.AbsKind.TheVariants.{Unset, Num, Ptr, Map}
 use Rattle.absdom.specs.Kinds.{IsKindBelow}
-use Rattle.absdom.specs.State.{StateValue, IsBelow, kind_at}
+use Rattle.absdom.specs.State.{StateValue, IsStateBelow, kind_at}
 use Rattle.absdom.specs.State.{IsWhole, IsProper}
 use Rattle.absdom.specs.Laws.{BelowIsReflexive}
 use Rattle.absdom_stack.specs.StackWords.{AreAllWhole, AreRangesWithin}
@@ -72,7 +72,7 @@ kind_is reflexive p l lowered place register before after proper within (opens o
 kind_is reflexive p l lowered place register before after proper within (keeps o w is) = rw is (kind_below-refl reflexive before)
 
 -- a formed program writes no frame pointer
-frame_named : (o : Option ℕ) → IfSome o (λ register. register ≢ 10) → is_named o 10 ≡ false
+frame_named : (o : Option ℕ) → IfSome o (λ register. register ≢ 10) → is_register_named o 10 ≡ false
 frame_named None leaves = refl
 frame_named (Some register) leaves = differs register leaves
   where
@@ -117,7 +117,7 @@ widened_head p l lowered place before after form low whole_range widened = recor
   words = λ keeps stored. wide_is p l before after stored widened.ranges;
 }
 
-pub widened_above : BelowIsReflexive → (p : Program) (l : Loop) (lowered : List Bool) (place : ℕ) (before after : StateValue) → IsWhole before → IsWhole after → IsWithinBound l before → IsWidened p l lowered place before after → IsBelow before after
+pub widened_above : BelowIsReflexive → (p : Program) (l : Loop) (lowered : List Bool) (place : ℕ) (before after : StateValue) → IsWhole before → IsWhole after → IsWithinBound l before → IsWidened p l lowered place before after → IsStateBelow before after
 widened_above reflexive p l lowered place before after proper new_proper within widened = record {
   kinds = λ register.
       elim (cases_lt register 10) [

@@ -3,7 +3,7 @@ use Rattle.std.specs.Prelude.{◌≤◌, ◌<◌, ◌+◌, ℕ, List}
 use Rattle.bpf.specs.Program.{Program, insn_at}
 use Rattle.bpf_insn.specs.declared.insn.Insn.{Insn}
 use Rattle.machine.specs.declared.calls.Call.{Call}
-use Rattle.machine.specs.Memory.{Header, IsHeader}
+use Rattle.machine.specs.Memory.{Header, IsProgramHeader}
 use Rattle.machine.specs.State.{State}
 use Rattle.machine.specs.Runs.{Path, entry, moves, answered}
 use Rattle.bver_form.specs.Costs.{cost_here, weight_by}
@@ -23,7 +23,7 @@ cost_of_path {program} cost (answered {s = s} answer path step small) =
 -- by that cost. So does a run, whose last instruction is at the end of its path.
 abbrev pub IsSafeFor : Program → (cost : Insn → ℕ) → Type 0
 IsSafeFor program cost =
-    (header : Header) (port : ℕ) (calls : List Call) (n : ℕ) (s : State) → IsHeader header → port < 32
+    (header : Header) (port : ℕ) (calls : List Call) (n : ℕ) (s : State) → IsProgramHeader header → port < 32
     → (path : Path program header port calls n s)
     → cost_of_path cost path + cost_here cost (insn_at program s.slot) ≤ weight_by cost program
 

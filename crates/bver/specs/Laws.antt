@@ -10,7 +10,7 @@ use Rattle.bver_form.specs.declared.refusal.Refused.{Refused}
 use Rattle.bver_pass.specs.Justified.{IsJustified, IsJudged}
 use Rattle.bver.specs.Costs.{IsSafeForCosts}
 use Rattle.bver.specs.Resolved.{IsResolved}
-use Rattle.bver.specs.Told.{IsClosed, TellsKnown}
+use Rattle.bver.specs.Reported.{IsClosed, ReportsKnown}
 
 -- a justified program is safe: no run of it traps, and each ends within the budget
 abbrev pub JustifiedIsSafe : Type 0
@@ -27,9 +27,9 @@ JudgedIsResolved =
     → IsResolved program regions
 
 -- a program that such a state refutes is not justified
-abbrev pub ToldIsUnjustified : Type 0
-ToldIsUnjustified =
-    (program : Program) (maps : Maps) (a : StateValue) (refused : Refused) → TellsKnown program maps a refused
+abbrev pub ReportedIsUnjustified : Type 0
+ReportedIsUnjustified =
+    (program : Program) (maps : Maps) (a : StateValue) (refused : Refused) → ReportsKnown program maps a refused
     → IsJustified program maps → ⊥
 
 -- something is closed of each program that has its form: so what must be assumed of it says something

@@ -3,6 +3,6 @@ pub mod Justified
 pub mod Operations
 pub mod Resolved
 pub mod Unjustified
-pub mod Told
+pub mod Reported
 pub mod Costs
 pub mod Laws

@@ -1,4 +1,4 @@
 -- What a refusal means: the definition of `bver_pass`.
 pub use Rattle.bver_pass.specs.Unjustified.{
-  TellsUnjustified,
+  ReportsUnjustified,
 }

@@ -1,6 +1,6 @@
 //! What holds of justified programs. Each function does nothing: its contract is the law.
 
-ghost use Rattle.bver.specs.Laws.{JudgedIsResolved, JustifiedIsSafe, JustifiedIsSafeForCosts, SomethingIsClosed, ToldIsUnjustified};
+ghost use Rattle.bver.specs.Laws.{JudgedIsResolved, JustifiedIsSafe, JustifiedIsSafeForCosts, SomethingIsClosed, ReportedIsUnjustified};
 
 use absdom::{
     after_call_fits, after_call_grows, apply_fits, apply_grows, apply_leaves, entry_fits,
@@ -27,8 +27,8 @@ pub fn justified_programs()
 }
 
 /// A law and no work: if a refusal gives a state that refutes a program, the program is not justified.
-pub(crate) fn told_programs()
-    ensures { ToldIsUnjustified }
+pub(crate) fn reported_programs()
+    ensures { ReportedIsUnjustified }
 {
     order_of_states();
     apply_grows();
@@ -37,7 +37,7 @@ pub(crate) fn told_programs()
     forgets_all();
 }
 
-/// A law and no work: something is closed of each program that has its form. So what a refusal gives (`TellsKnown`)
+/// A law and no work: something is closed of each program that has its form. So what a refusal gives (`ReportsKnown`)
 /// must be assumed of something.
 pub fn something_is_closed()
     ensures { SomethingIsClosed }

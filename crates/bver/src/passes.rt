@@ -9,8 +9,8 @@ ghost use Rattle.bver_pass.specs.Leading.{IsHeadFault, IsHeadFaultIfAny, IsLeast
 ghost use Rattle.bver_form.specs.Lowered.{IsMore, IsSettled};
 ghost use Rattle.bver_form.specs.declared.refusal.Refusal.TheVariants.{LoopEntry};
 ghost use Rattle.bver_pass.specs.Refusals.{IsValueFault};
-ghost use Rattle.bver_pass.specs.Table.{knowledge_in};
-ghost use Rattle.bver.specs.Told.{HasToLower, TellsKnown};
+ghost use Rattle.bver_pass.specs.StateTable.{knowledge_in};
+ghost use Rattle.bver.specs.Reported.{HasToLower, ReportsKnown};
 ghost use Rattle.bver_form.specs.Targets.{IsKept};
 ghost use Rattle.bver_pass.specs.Visit.{AreEntered, IsExtended, IsInsnVisit, IsLeastEntry, IsLeastOf, IsTableOf, IsVisit, visited_state};
 ghost use Rattle.bver_pass.specs.Written.{AreWrittenByLoops};
@@ -22,7 +22,7 @@ use absdom::{
 use bpf::{Image, MAX_LOOPS};
 use bpf_insn::Insn;
 use bver_form::{Lowered, Refused, loops_are_counted};
-use bver_pass::{Body, Table, Visit, Written, accessed_region, flow};
+use bver_pass::{Body, StateTable, Visit, Written, accessed_region, flow};
 use machine::MapSizes;
 
 /// Widens what is known at a head, if a run enters the loop within its bound.
@@ -52,7 +52,7 @@ fn widen_head(
 /// At the head of a loop, widens what is known there to what holds in every pass.
 fn enter(
     visit: &Visit,
-    table: &mut Table<'_>,
+    table: &mut StateTable<'_>,
     lowered: &Lowered,
     state: &mut State,
 ) -> Result<(), Refused>
@@ -88,7 +88,7 @@ fn enter(
 /// state. The result is whether anything is known.
 fn arrive(
     visit: &Visit,
-    table: &mut Table<'_>,
+    table: &mut StateTable<'_>,
     lowered: &Lowered,
     state: &mut State,
     runs: bool,
@@ -134,7 +134,7 @@ fn arrive(
 /// accesses.
 fn visit_insn(
     visit: &Visit,
-    table: &mut Table<'_>,
+    table: &mut StateTable<'_>,
     lowered: &mut Lowered,
     state: &mut State,
     spare: &mut State,
@@ -174,7 +174,7 @@ fn visit_insn(
 /// Visits a slot. It does nothing at a second slot.
 fn visit_slot(
     visit: &Visit,
-    table: &mut Table<'_>,
+    table: &mut StateTable<'_>,
     lowered: &mut Lowered,
     state: &mut State,
     spare: &mut State,
@@ -210,7 +210,7 @@ fn visit_slot(
 ///
 /// The first refusal of the pass, with its slot.
 pub(crate) fn pass(
-    table: &mut Table<'_>,
+    table: &mut StateTable<'_>,
     lowered: &mut Lowered,
     image: &Image,
     maps: &MapSizes,
@@ -232,9 +232,9 @@ pub(crate) fn pass(
     ensures refused { IfErr result (IsValueFault image.now) }
     ensures lowers { OnOk result
         (HasToLower image.now lowered.old → HasToLower image.now lowered.new) }
-    ensures told { IfErr result
+    ensures reported { IfErr result
         (λ refused. HasToLower image.now lowered.old
-        → TellsKnown image.now maps.now state.new refused) }
+        → ReportsKnown image.now maps.now state.new refused) }
 {
     order_of_states();
     apply_grows();

@@ -20,7 +20,7 @@ use Rattle.bver_form.proofs.Entering.{comes_in, goes_back_to}
 -- of two loops, the later one, by head, is nested in the other or after it
 follows : (l m : Loop) → l.head < m.head → m.head < m.back → IsNestedOrApart l m → (l.back < m.head) ⊎ (m.back < l.back)
 follows l m rising ordered (inl (inl before)) = inl before
-follows l m rising ordered (inl (inr behind)) = absurd (omega arith)
+follows l m rising ordered (inl (inr following)) = absurd (omega arith)
 follows l m rising ordered (inr (inl inside)) = let a = inside.0 in absurd (omega arith)
 follows l m rising ordered (inr (inr holds_it)) = inr holds_it.1
 

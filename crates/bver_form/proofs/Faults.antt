@@ -22,7 +22,7 @@ use Rattle.bver_form.specs.Codes.{IsFormCode}
 use Rattle.bver_form.specs.Support.{IsSupportedCall, IsSupportedFlow, call_fault, support_fault, frame_fault}
 use Rattle.bver_form.specs.Jumps.{IsAfter, IsBackToHead, IsFirstSlot, IsJump, first_slot, is_loop_back, jump_distance, insn_at, target}
 use Rattle.bver_form.specs.Loops.{IsLoopFormed}
-use Rattle.bver_form.specs.Form.{AreAllowed, IsAllowed, IsAllowedAt, IsFaultAt, of_insn, of_end, of_loop, of_weight, IsInsnFault, IsLoopFault, first_of, insn_fault, jump_fault, landing_fault, last_slot}
+use Rattle.bver_form.specs.Form.{AreAllowed, IsAllowed, IsAllowedAt, IsRefusalAt, of_insn, of_end, of_loop, of_weight, IsInsnFault, IsLoopFault, first_of, insn_fault, jump_fault, landing_fault, last_slot}
 use Rattle.bver_form.specs.Laws.{FaultIsKnown, FaultRefutesForm, FirstFaultIsOne}
 use Rattle.bver_form.proofs.Fitting.{loop_at}
 use Rattle.bver_form.proofs.Kept.{begins_inside}
@@ -69,7 +69,7 @@ no_fault p slot insn h =
     first_none (support_fault p.version (flow_of insn)) (first_of (frame_fault (written_register insn)) (jump_fault p slot (jump_distance insn))) (support_none p.version (flow_of insn) h.supported)
     (first_none (frame_fault (written_register insn)) (jump_fault p slot (jump_distance insn)) (frame_none (written_register insn) h.leaves_frame) (jump_none p slot (jump_distance insn) h.jump))
 
-allowed_or_fault : (p : Program) (slot : ℕ) (o : Option Insn) (code : Refusal) → IsAllowedAt p slot o → IsFaultAt p slot o code → ⊥
+allowed_or_fault : (p : Program) (slot : ℕ) (o : Option Insn) (code : Refusal) → IsAllowedAt p slot o → IsRefusalAt p slot o code → ⊥
 allowed_or_fault p slot None code allowed fault = fault
 allowed_or_fault p slot (Some insn) code allowed fault = let none = no_fault p slot insn allowed in absurd cc
 
@@ -105,7 +105,7 @@ same_refused one other code slot =
 later_insn : (p : Program) (one other : Refused) → IsInsnFault p one → IsInsnFault p other → one.slot < other.slot → ⊥
 later_insn p one other f g before = allowed_or_fault p one.slot (insn_at p one.slot) one.code (g.earlier one.slot before) f.fault
 
-same_code : (p : Program) (slot : ℕ) (o : Option Insn) (a b : Refusal) → IsFaultAt p slot o a → IsFaultAt p slot o b → a ≡ b
+same_code : (p : Program) (slot : ℕ) (o : Option Insn) (a b : Refusal) → IsRefusalAt p slot o a → IsRefusalAt p slot o b → a ≡ b
 same_code p slot None a b f g = absurd f
 same_code p slot (Some insn) a b f g = cc
 
@@ -118,7 +118,7 @@ one_insn p one other f g =
             | inl after ↦ absurd (later_insn p other one g f after)
             | inr not_after ↦
                 let same : other.slot ≡ one.slot = omega arith in
-                same_refused one other (same_code p one.slot (insn_at p one.slot) one.code other.code f.fault (subst (λ s. IsFaultAt p s (insn_at p s) other.code) same g.fault)) (sym same)
+                same_refused one other (same_code p one.slot (insn_at p one.slot) one.code other.code f.fault (subst (λ s. IsRefusalAt p s (insn_at p s) other.code) same g.fault)) (sym same)
           ]
     ]
 
@@ -213,7 +213,7 @@ insn_form p slot insn =
     first_form (support_fault p.version (flow_of insn)) (first_of (frame_fault (written_register insn)) (jump_fault p slot (jump_distance insn))) (support_form p.version (flow_of insn))
     (first_form (frame_fault (written_register insn)) (jump_fault p slot (jump_distance insn)) (frame_form (written_register insn)) (jump_form p slot (jump_distance insn)))
 
-insn_known : (p : Program) (slot : ℕ) (o : Option Insn) (code : Refusal) → insn_at p slot ≡ o → IsFaultAt p slot o code → IsFormCode code × (slot < length p.slots)
+insn_known : (p : Program) (slot : ℕ) (o : Option Insn) (code : Refusal) → insn_at p slot ≡ o → IsRefusalAt p slot o code → IsFormCode code × (slot < length p.slots)
 insn_known p slot None code is fault = absurd fault
 insn_known p slot (Some insn) code is fault =
     (form_fault (insn_fault p slot insn) code (insn_form p slot insn) fault, begins_inside p slot (subst (λ (o : Option Insn). IsSome o) (sym is) refl))

@@ -21,20 +21,20 @@ held l k a b = and_from (nat_le l.head k) (nat_le k l.back) (by_le (λ t. t ≡ 
 pub not_before : (l : Loop) (k : ℕ) → k < l.head → holds l k ≡ false
 not_before l k a = by_test (λ t. t ≡ false) (holds l k) (λ e. let b = low l k e in absurd (omega arith)) (λ _. refl)
 
-pub not_behind : (l : Loop) (k : ℕ) → l.back < k → holds l k ≡ false
-not_behind l k a = by_test (λ t. t ≡ false) (holds l k) (λ e. let b = high l k e in absurd (omega arith)) (λ _. refl)
+pub not_after : (l : Loop) (k : ℕ) → l.back < k → holds l k ≡ false
+not_after l k a = by_test (λ t. t ≡ false) (holds l k) (λ e. let b = high l k e in absurd (omega arith)) (λ _. refl)
 
 -- the place of a slot: before, in or after a loop
 pub data IsPlace (l : Loop) (k : ℕ) : Type 0 where
   before : k < l.head → IsPlace l k
   within : l.head ≤ k → k ≤ l.back → IsPlace l k
-  behind : l.back < k → IsPlace l k
+  following : l.back < k → IsPlace l k
 
 pub place : (l : Loop) (k : ℕ) → IsPlace l k
 place l k =
     elim (cases_lt k l.head) [
       | inl a ↦ before a
-      | inr a ↦ elim (cases_lt l.back k) [ inl b ↦ behind b | inr b ↦ within a b ]
+      | inr a ↦ elim (cases_lt l.back k) [ inl b ↦ following b | inr b ↦ within a b ]
     ]
 
 pub outside : (l : Loop) (k : ℕ) → holds l k ≡ false → (k < l.head) ⊎ (l.back < k)
@@ -42,7 +42,7 @@ outside l k e =
     elim (place l k) [
       | before a ↦ inl a
       | within a b ↦ absurd (true≢false (sym (held l k a b) ∙ e))
-      | behind b ↦ inr b
+      | following b ↦ inr b
     ]
 
 -- ---- `left` and `times_at`, case by case
@@ -70,8 +70,8 @@ module _ (l : Loop) (ls : List Loop) (v : ℕ → ℕ) (i k : ℕ) where
   pub left_before : holds l i ≡ true → k < l.head → executions_left (l ∷ ls) v i k ≡ l.bound * times_at ls i
   left_before e a = left_held e ∙ by_lt (λ t. (if t then times_at (l ∷ ls) i else (if nat_lt l.back k then 0 else further_passes l (v l.head) k * times_at ls i + executions_left ls v i k)) ≡ l.bound * times_at ls i) k l.head (λ _. times_in l ls i e) (λ b. absurd (omega arith))
 
-  pub left_behind : holds l i ≡ true → l.head < l.back → l.back < k → executions_left (l ∷ ls) v i k ≡ 0
-  left_behind e o a = left_held e ∙ by_lt (λ t. (if t then times_at (l ∷ ls) i else (if nat_lt l.back k then 0 else further_passes l (v l.head) k * times_at ls i + executions_left ls v i k)) ≡ 0) k l.head (λ b. absurd (omega arith)) (λ _.
+  pub left_after_loop : holds l i ≡ true → l.head < l.back → l.back < k → executions_left (l ∷ ls) v i k ≡ 0
+  left_after_loop e o a = left_held e ∙ by_lt (λ t. (if t then times_at (l ∷ ls) i else (if nat_lt l.back k then 0 else further_passes l (v l.head) k * times_at ls i + executions_left ls v i k)) ≡ 0) k l.head (λ b. absurd (omega arith)) (λ _.
       by_lt (λ t. (if t then 0 else further_passes l (v l.head) k * times_at ls i + executions_left ls v i k) ≡ 0) l.back k (λ _. refl) (λ b. absurd (omega arith)))
 
   pub left_within : holds l i ≡ true → l.head ≤ k → k ≤ l.back → executions_left (l ∷ ls) v i k ≡ further_passes l (v l.head) k * times_at ls i + executions_left ls v i k

@@ -7,4 +7,4 @@ pub mod Counted
 pub mod Faults
 pub mod Kept
 pub mod Counts
-pub mod Told
+pub mod Reported

@@ -5,7 +5,7 @@ use Rattle.std.proofs.lemmas.Bool.{cases_eq, true≢false}
 use Rattle.bpf.specs.declared.loops.Loop.{Loop}
 use Rattle.bpf.specs.Weight.{times_at}
 use Rattle.bver_form.specs.Loops.{ComesIn, IsCounted, further_passes, holds, executions_left}
-use Rattle.bver_form.proofs.Left.{low, high, held, not_before, before, within, behind, place, outside, left_out, left_before, left_behind, left_within, further_back, further_else, more_times, rounds, tail_all, head_all, AreLaid, left_ahead, left_here}
+use Rattle.bver_form.proofs.Left.{low, high, held, not_before, before, within, following, place, outside, left_out, left_before, left_after_loop, left_within, further_back, further_else, more_times, rounds, tail_all, head_all, AreLaid, left_ahead, left_here}
 use Rattle.lemmas.proofs.Cases.{by_test, by_le}
 
 -- one is taken from the instruction at the slot, and nothing need be taken from the others
@@ -92,7 +92,7 @@ module _ (v w : ℕ → ℕ) (i k next e : ℕ) where
             elim (place l next) [
               | before b ↦ let none = nothing i k e taken (λ s. omega arith) in rw (left_before l ls w i next e_i b, left_before l ls v i k e_i a) (omega (arith, none))
               | within b c ↦ enters l ls least laid counted comes taken e_i a (held l next b c)
-              | behind b ↦ let none = nothing i k e taken (λ s. omega arith) in rw (left_behind l ls w i next e_i laid.1 b) (omega (arith, none))
+              | following b ↦ let none = nothing i k e taken (λ s. omega arith) in rw (left_after_loop l ls w i next e_i laid.1 b) (omega (arith, none))
             ]
         | within a b ↦
             elim (place l next) [
@@ -100,11 +100,11 @@ module _ (v w : ℕ → ℕ) (i k next e : ℕ) where
               | within c d ↦
                   rw (left_within l ls w i next e_i c d, left_within l ls v i k e_i a b)
                   (keeps (further_passes l (w l.head) next) (further_passes l (v l.head) k) (times_at ls i) (executions_left ls w i next) (executions_left ls v i k) e (same_further l k next (v l.head) (w l.head) counted comes onward (held l k a b) (held l next c d)) others)
-              | behind c ↦
-                  rw (left_behind l ls w i next e_i laid.1 c, left_within l ls v i k e_i a b)
+              | following c ↦
+                  rw (left_after_loop l ls w i next e_i laid.1 c, left_within l ls v i k e_i a b)
                   (plus (further_passes l (v l.head) k * times_at ls i) (executions_left ls v i k) e (there ls v i k e taken))
             ]
-        | behind a ↦ let none = nothing i k e taken (λ s. omega arith) in rw (left_behind l ls w i next e_i laid.1 (omega arith)) (omega (arith, none))
+        | following a ↦ let none = nothing i k e taken (λ s. omega arith) in rw (left_after_loop l ls w i next e_i laid.1 (omega arith)) (omega (arith, none))
       ]
 
   pub goes_onward : (ls : List Loop) (least : ℕ) → AreLaid least ls → All (λ l. IsCounted l k next (v l.head) (w l.head)) ls → All (λ l. ComesIn l k next) ls → k < next → IsTaken i k e → executions_left ls w i next + e ≤ executions_left ls v i k
@@ -135,7 +135,7 @@ module _ (v w : ℕ → ℕ) (i k next e : ℕ) where
       let top = high m i e_i in
       let after = laid.0 in
       elim (head_all (λ m. (l.back < m.head) ⊎ (m.back < l.back)) m ms apart) [
-        | inl behind_it ↦ rw (left_before m ms w i next e_i (omega arith), left_before m ms v i k e_i (omega arith)) (omega arith)
+        | inl after_it ↦ rw (left_before m ms w i next e_i (omega arith), left_before m ms v i k e_i (omega arith)) (omega arith)
         | inr inside ↦ absurd (elim out [ inl c ↦ omega arith | inr c ↦ omega arith ])
       ])
       (λ _ e_i.
@@ -186,7 +186,7 @@ module _ (v w : ℕ → ℕ) (i k next e : ℕ) where
       elim where_ [
         | inl past ↦
             let none = nothing i k e taken (λ s. omega arith) in
-            rw (left_behind l ls w i next e_i laid.1 past) (omega (arith, none))
+            rw (left_after_loop l ls w i next e_i laid.1 past) (omega (arith, none))
         | inr inside ↦
             rw (left_within l ls w i next e_i (omega arith) (omega arith), left_within l ls v i k e_i (omega arith) (omega arith))
             (keeps (further_passes l (w l.head) next) (further_passes l (v l.head) k) (times_at ls i) (executions_left ls w i next) (executions_left ls v i k) e (less_further l counted inside backward (held l k (omega arith) (omega arith)) (held l next (omega arith) (omega arith))) others)

@@ -25,15 +25,15 @@ distance_at None = None
 distance_at (Some insn) = jump_distance insn
 
 -- the distance of a jump by the facts, if there is one
-abbrev pub told_distance : SlotFacts → Option ℤ
-told_distance facts = if facts.jumps then Some facts.distance else None
+abbrev pub stated_distance : SlotFacts → Option ℤ
+stated_distance facts = if facts.jumps then Some facts.distance else None
 
 -- The facts are those of the instruction that begins at a slot, if one does. They say what it writes, r0 as the
 -- lowest bit, whether it stores, and how far it jumps.
 pub record AreFactsOf (insn : Option Insn) (facts : SlotFacts) : Type 0 where
   pub registers : (register : ℕ) → register ≤ 10 → is_bit facts.registers register ≡ writes_at insn register
   pub stores : facts.stores ≡ stores_at insn
-  pub jump : told_distance facts ≡ distance_at insn
+  pub jump : stated_distance facts ≡ distance_at insn
 
 -- each slot's facts are at its place
 abbrev pub AreFacts : Program → List SlotFacts → Type 0

@@ -76,12 +76,12 @@ abbrev pub IsBefore : Loop → Loop → Type 0
 IsBefore l m = l.back < m.head
 
 -- the first loop lies inside the second
-abbrev pub IsInside : Loop → Loop → Type 0
-IsInside l m = (m.head < l.head) × (l.back < m.back)
+abbrev pub IsLoopInside : Loop → Loop → Type 0
+IsLoopInside l m = (m.head < l.head) × (l.back < m.back)
 
 -- two loops are apart, or one is nested in the other: they have different heads and backs
 abbrev pub IsNestedOrApart : Loop → Loop → Type 0
-IsNestedOrApart l m = (IsBefore l m ⊎ IsBefore m l) ⊎ (IsInside l m ⊎ IsInside m l)
+IsNestedOrApart l m = (IsBefore l m ⊎ IsBefore m l) ⊎ (IsLoopInside l m ⊎ IsLoopInside m l)
 
 -- the loop is so with every declared loop of another head (heads rise strictly, so each head has one loop)
 abbrev pub IsAmongOthers : Program → Loop → Type 0

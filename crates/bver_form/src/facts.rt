@@ -3,8 +3,8 @@
 ghost use Rattle.std.specs.Prelude.{◌≡◌, ◌≤◌, ◌||◌, ℕ, Some, None, true, false};
 ghost use Rattle.bpf.specs.Program.{insn_at};
 ghost use Rattle.bpf_insn.specs.Bits.{is_bit};
-ghost use Rattle.bpf_insn.specs.Flow.{is_clobbered, is_named};
-ghost use Rattle.bver_form.specs.Facts.{AreFacts, AreFactsOf, told_distance};
+ghost use Rattle.bpf_insn.specs.Flow.{is_clobbered, is_register_named};
+ghost use Rattle.bver_form.specs.Facts.{AreFacts, AreFactsOf, stated_distance};
 
 use bpf::{Image, MAX_SLOTS};
 use bpf_insn::{Callee, Flow, Insn, Register};
@@ -26,11 +26,11 @@ pub struct SlotFacts {
 
 impl SlotFacts {
     /// Those of a slot at which no instruction begins, and of an instruction that does none of these.
-    #[tactic(auto, using(crate::proofs::Told::has_none))]
+    #[tactic(auto, using(crate::proofs::Reported::has_none))]
     fn nothing() -> SlotFacts
         ensures registers { (register : ℕ) → is_bit result.registers register ≡ false }
         ensures stores { result.stores ≡ false }
-        ensures jump { told_distance result ≡ None }
+        ensures jump { stated_distance result ≡ None }
     {
         SlotFacts {
             registers: 0,
@@ -41,13 +41,13 @@ impl SlotFacts {
     }
 
     /// Those of an instruction that writes the register which it names.
-    #[tactic(auto, using(crate::proofs::Told::has_only))]
+    #[tactic(auto, using(crate::proofs::Reported::has_only))]
     fn writing(named: Register) -> SlotFacts
         ensures registers { (register : ℕ) → register ≤ 10
             → is_bit result.registers register
-            ≡ (is_named (Some named) register || is_clobbered Flow.GoesOn register) }
+            ≡ (is_register_named (Some named) register || is_clobbered Flow.GoesOn register) }
         ensures stores { result.stores ≡ false }
-        ensures jump { told_distance result ≡ None }
+        ensures jump { stated_distance result ≡ None }
     {
         SlotFacts {
             registers: 1 << named.number(),
@@ -58,11 +58,11 @@ impl SlotFacts {
     }
 
     /// Those of a store.
-    #[tactic(auto, using(crate::proofs::Told::has_none))]
+    #[tactic(auto, using(crate::proofs::Reported::has_none))]
     fn storing() -> SlotFacts
         ensures registers { (register : ℕ) → is_bit result.registers register ≡ false }
         ensures stores { result.stores ≡ true }
-        ensures jump { told_distance result ≡ None }
+        ensures jump { stated_distance result ≡ None }
     {
         SlotFacts {
             registers: 0,
@@ -73,11 +73,11 @@ impl SlotFacts {
     }
 
     /// Those of a jump by this many slots from the next one.
-    #[tactic(auto, using(crate::proofs::Told::has_none))]
+    #[tactic(auto, using(crate::proofs::Reported::has_none))]
     fn jumping(distance: i32) -> SlotFacts
         ensures registers { (register : ℕ) → is_bit result.registers register ≡ false }
         ensures stores { result.stores ≡ false }
-        ensures jump { told_distance result ≡ Some distance }
+        ensures jump { stated_distance result ≡ Some distance }
     {
         SlotFacts {
             registers: 0,
@@ -93,7 +93,7 @@ impl SlotFacts {
             → is_bit result.registers register
             ≡ is_clobbered (Flow.Calls callee number) register }
         ensures stores { result.stores ≡ false }
-        ensures jump { told_distance result ≡ None }
+        ensures jump { stated_distance result ≡ None }
     {
         SlotFacts {
             registers: Flow::Calls(callee, number).clobbered(),
@@ -157,7 +157,7 @@ impl SlotFacts {
 
     /// The distance of the instruction's jump, if it jumps: in slots from the next one.
     pub(crate) fn distance(&self) -> Option<i32>
-        ensures { result ≡ told_distance self.now }
+        ensures { result ≡ stated_distance self.now }
     {
         if self.jumps {
             Some(self.distance)
@@ -173,7 +173,7 @@ pub fn no_facts() -> [SlotFacts; SLOTS] {
 }
 
 /// Writes the facts of each slot of a program to its place.
-pub(crate) fn tell_slots(image: &Image, facts: &mut [SlotFacts; SLOTS])
+pub(crate) fn write_slots(image: &Image, facts: &mut [SlotFacts; SLOTS])
     ensures { AreFacts image.now facts.new }
 {
     for slot in 0..image.slots() {

@@ -2,11 +2,11 @@
 
 ghost use Rattle.std.specs.Prelude.{All, IfErr, MatchResult, OnOk};
 ghost use Rattle.bver_form.specs.Facts.{AreFacts};
-ghost use Rattle.bver_form.specs.Form.{AreAllowed, IsAllowed, IsAllowedAt, IsFaultAt, IsFormed, IsFormFault, IsInsnFault, IsLoopFault, Tells, insn_fault, insn_at};
+ghost use Rattle.bver_form.specs.Form.{AreAllowed, IsAllowed, IsAllowedAt, IsRefusalAt, IsFormed, IsFormFault, IsInsnFault, IsLoopFault, ReportsFault, insn_fault, insn_at};
 ghost use Rattle.bver_form.specs.Loops.{IsLoopFormed};
 
 use crate::ending::{check_budget, check_end};
-use crate::facts::{SLOTS, SlotFacts, no_facts, tell_slots};
+use crate::facts::{SLOTS, SlotFacts, no_facts, write_slots};
 use crate::jumps::check_landing;
 use crate::loops::check_loops;
 use crate::refusal::{Refusal, Refused};
@@ -17,7 +17,7 @@ use bpf_insn::Insn;
 /// Tests that the instruction is allowed at the slot.
 fn check_insn(image: &Image, slot: u16, insn: &Insn) -> Result<(), Refusal>
     ensures allowed { OnOk result (IsAllowed image.now slot insn.now) }
-    ensures fault { Tells result (insn_fault image.now slot insn.now) }
+    ensures fault { ReportsFault result (insn_fault image.now slot insn.now) }
 {
     match *insn {
         Insn::Alu { dst, .. }
@@ -38,7 +38,7 @@ fn check_insn(image: &Image, slot: u16, insn: &Insn) -> Result<(), Refusal>
 /// Tests that the instruction that begins at the slot, if one does, is allowed there.
 fn check_slot(image: &Image, slot: u16) -> Result<(), Refusal>
     ensures { MatchResult result (λ _. IsAllowedAt image.now slot (insn_at image.now slot))
-        (IsFaultAt image.now slot (insn_at image.now slot)) }
+        (IsRefusalAt image.now slot (insn_at image.now slot)) }
 {
     match image.insn(slot) {
         Some(insn) => check_insn(image, slot, &insn),
@@ -65,7 +65,7 @@ fn check_declared(image: &Image) -> Result<(), Refused>
         return Ok(());
     }
     let mut facts = no_facts();
-    tell_slots(image, &mut facts);
+    write_slots(image, &mut facts);
     check_loops(image, &facts)
 }
 
@@ -108,7 +108,7 @@ pub fn check_with(image: &Image, facts: &mut [SlotFacts; SLOTS]) -> Result<(), R
 {
     check_slots(image)?;
     check_end(image)?;
-    tell_slots(image, facts);
+    write_slots(image, facts);
     check_loops(image, facts)?;
     check_budget(image)
 }

@@ -1,7 +1,7 @@
 //! The slot to which an instruction jumps, and whether it may (RFC 9669, section 4.3).
 
 ghost use Rattle.std.specs.Prelude.{◌≡◌, OnOk, Some};
-ghost use Rattle.bver_form.specs.Form.{Tells, jump_fault};
+ghost use Rattle.bver_form.specs.Form.{ReportsFault, jump_fault};
 ghost use Rattle.bver_form.specs.Jumps.{IsJump, first_slot, is_loop_back, target};
 
 use crate::refusal::Refusal;
@@ -45,7 +45,7 @@ fn is_loop_back(image: &Image, slot: u16, head: u16) -> bool
 /// at the back of a declared loop to its head.
 pub(crate) fn check_landing(image: &Image, slot: u16, distance: i32) -> Result<(), Refusal>
     ensures jump { OnOk result (IsJump image.now slot distance) }
-    ensures fault { Tells result (jump_fault image.now slot (Some distance)) }
+    ensures fault { ReportsFault result (jump_fault image.now slot (Some distance)) }
 {
     match landing(image, slot, distance) {
         Some(landing) => {

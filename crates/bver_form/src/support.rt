@@ -3,7 +3,7 @@
 ghost use Rattle.std.specs.Prelude.{◌≡◌, ◌≢◌, OnOk, Some};
 ghost use Rattle.machine.specs.Helpers.{helper_of};
 ghost use Rattle.machine.specs.Step.{knows_helper};
-ghost use Rattle.bver_form.specs.Form.{Tells};
+ghost use Rattle.bver_form.specs.Form.{ReportsFault};
 ghost use Rattle.bver_form.specs.Support.{IsSupportedCall, call_fault, frame_fault};
 
 use crate::refusal::Refusal;
@@ -24,7 +24,7 @@ fn knows_helper(version: Version, number: i32) -> bool
 /// Tests that the call is of a helper that the version of the format has.
 pub(crate) fn check_call(version: Version, callee: Callee, number: i32) -> Result<(), Refusal>
     ensures supported { OnOk result (IsSupportedCall version callee number) }
-    ensures fault { Tells result (call_fault version callee number) }
+    ensures fault { ReportsFault result (call_fault version callee number) }
 {
     match callee {
         Callee::Helper => {
@@ -41,7 +41,7 @@ pub(crate) fn check_call(version: Version, callee: Callee, number: i32) -> Resul
 /// Tests that the register, which an instruction writes, is not the frame pointer.
 pub(crate) fn check_written(register: Register) -> Result<(), Refusal>
     ensures leaves { OnOk result (register ≢ 10) }
-    ensures fault { Tells result (frame_fault (Some register)) }
+    ensures fault { ReportsFault result (frame_fault (Some register)) }
 {
     if register.number() == FRAME_POINTER {
         return Err(Refusal::FrameWrite);

@@ -6,7 +6,7 @@ use Rattle.std.proofs.lemmas.Bool.Decides.{nat_tests}
 use Rattle.absdom.specs.State.{StateValue}
 use Rattle.absdom.specs.Laws.{BelowIsReflexive}
 use Rattle.bver_pass.specs.Justified.{IsCoveredIfAny}
-use Rattle.bver_pass.specs.Table.{TableValue, AreEntries, knowledge_beside, knowledge_in}
+use Rattle.bver_pass.specs.StateTable.{TableValue, AreEntries, knowledge_beside, knowledge_in}
 use Rattle.bver_form.specs.Targets.{IsKept}
 use Rattle.bver_pass.proofs.Covering.{AreCovered, covers_itself}
 use Rattle.bver_pass.proofs.Keeping.{known_plain}

@@ -1,8 +1,8 @@
 -- A table that changed only at later slots.
 use Rattle.std.proofs.Common.{◌≡◌, ◌≢◌, ℕ, ◌≤◌, ◌∙◌, arith}
 use Rattle.absdom.specs.Laws.{BelowIsTransitive}
-use Rattle.bver_pass.specs.Visit.{AreWhole, IsGrown, IsExtended}
-use Rattle.bver_pass.specs.Table.{TableValue, knowledge_in}
+use Rattle.bver_pass.specs.Visit.{AreWhole, IsTableGrown, IsExtended}
+use Rattle.bver_pass.specs.StateTable.{TableValue, knowledge_in}
 use Rattle.bver_pass.proofs.Covering.{any_covered_more}
 
 -- ---- the table
@@ -17,7 +17,7 @@ extended_twice transitive from old mid new f g = record {
 }
 
 -- a table in which only one slot changed, from there on
-pub changed_at : (from slot : ℕ) (old new : TableValue) → from ≤ slot → new.program ≡ old.program → IsGrown (knowledge_in old) (knowledge_in new) → ((k : ℕ) → k ≢ slot → knowledge_in new k ≡ knowledge_in old k) → (AreWhole (knowledge_in old) → AreWhole (knowledge_in new)) → IsExtended from old new
+pub changed_at : (from slot : ℕ) (old new : TableValue) → from ≤ slot → new.program ≡ old.program → IsTableGrown (knowledge_in old) (knowledge_in new) → ((k : ℕ) → k ≢ slot → knowledge_in new k ≡ knowledge_in old k) → (AreWhole (knowledge_in old) → AreWhole (knowledge_in new)) → IsExtended from old new
 changed_at from slot old new above program grown others whole = record {
   program = program;
   grown = grown;

@@ -15,7 +15,7 @@ use Rattle.bver_form.specs.Jumps.{IsFirstSlot, IsJump, first_slot, target}
 use Rattle.bver_form.specs.Loops.{IsLoopFormed, back_jump}
 use Rattle.bver_form.specs.Targets.{AreKept, IsKept, IsNumbered, landing_from, place_at}
 use Rattle.bver_pass.specs.Justified.{IsCoveredIfAny}
-use Rattle.bver_pass.specs.Table.{TableValue, AreEntries, HasEntry, entry_of, knowledge_in}
+use Rattle.bver_pass.specs.StateTable.{TableValue, AreEntries, HasEntry, entry_place_of, knowledge_in}
 use Rattle.bver_pass.specs.Visit.{AreWhole}
 use Rattle.absdom.specs.Laws.{BelowIsReflexive}
 use Rattle.bver_pass.proofs.Covering.{covers_itself}
@@ -73,31 +73,31 @@ known_elsewhere t slot k new h has apart =
     ]
 
 -- the place of an entry that was found
-entry_is : (t : TableValue) (slot place : ℕ) → Some place ≡ entry_of t slot → (place ≡ place_at t.places slot) × HasEntry t slot
+entry_is : (t : TableValue) (slot place : ℕ) → Some place ≡ entry_place_of t slot → (place ≡ place_at t.places slot) × HasEntry t slot
 entry_is t slot place is =
     elim (cases_lt (place_at t.places slot) (length t.entries)) [
-      | inl inside ↦ (let there : entry_of t slot ≡ Some (place_at t.places slot) = grind (arith, nat_tests, inside) in cc, inside)
-      | inr past ↦ let none : entry_of t slot ≡ None = grind (arith, nat_tests, past) in absurd cc
+      | inl inside ↦ (let there : entry_place_of t slot ≡ Some (place_at t.places slot) = grind (arith, nat_tests, inside) in cc, inside)
+      | inr past ↦ let none : entry_place_of t slot ≡ None = grind (arith, nat_tests, past) in absurd cc
     ]
 
-pub entry_none : (t : TableValue) (slot : ℕ) → None ≡ entry_of t slot → HasEntry t slot → ⊥
+pub entry_none : (t : TableValue) (slot : ℕ) → None ≡ entry_place_of t slot → HasEntry t slot → ⊥
 entry_none t slot is inside =
-    let there : entry_of t slot ≡ Some (place_at t.places slot) = grind (arith, nat_tests, inside) in
+    let there : entry_place_of t slot ≡ Some (place_at t.places slot) = grind (arith, nat_tests, inside) in
     cc
 
 -- an entry that was found is written
-pub set_there : (t : TableValue) (slot place : ℕ) (new : Option StateValue) → Some place ≡ entry_of t slot → slice_index_or (slice_set t.entries place new) (place_at t.places slot) None ≡ new
+pub set_there : (t : TableValue) (slot place : ℕ) (new : Option StateValue) → Some place ≡ entry_place_of t slot → slice_index_or (slice_set t.entries place new) (place_at t.places slot) None ≡ new
 set_there t slot place new is =
     let found = entry_is t slot place is in
     subst (λ (i : ℕ). slice_index_or (slice_set t.entries i new) (place_at t.places slot) None ≡ new) (sym found.0) (known_there t slot new found.1)
 
-pub set_elsewhere : (t : TableValue) (slot place k : ℕ) (new : Option StateValue) → AreEntries t → Some place ≡ entry_of t slot → k ≢ slot → slice_index_or (slice_set t.entries place new) (place_at t.places k) None ≡ knowledge_in t k
+pub set_elsewhere : (t : TableValue) (slot place k : ℕ) (new : Option StateValue) → AreEntries t → Some place ≡ entry_place_of t slot → k ≢ slot → slice_index_or (slice_set t.entries place new) (place_at t.places k) None ≡ knowledge_in t k
 set_elsewhere t slot place k new h is apart =
     let found = entry_is t slot place is in
     subst (λ (i : ℕ). slice_index_or (slice_set t.entries i new) (place_at t.places k) None ≡ knowledge_in t k) (sym found.0) (known_elsewhere t slot k new h found.1 apart)
 
 -- what is known grows if an entry that was found is written with what covers it
-pub set_grown : BelowIsReflexive → (t : TableValue) (slot place : ℕ) (new : Option StateValue) → AreEntries t → Some place ≡ entry_of t slot → IsCoveredIfAny (knowledge_in t slot) new → (k : ℕ) → IsCoveredIfAny (knowledge_in t k) (slice_index_or (slice_set t.entries place new) (place_at t.places k) None)
+pub set_grown : BelowIsReflexive → (t : TableValue) (slot place : ℕ) (new : Option StateValue) → AreEntries t → Some place ≡ entry_place_of t slot → IsCoveredIfAny (knowledge_in t slot) new → (k : ℕ) → IsCoveredIfAny (knowledge_in t k) (slice_index_or (slice_set t.entries place new) (place_at t.places k) None)
 set_grown reflexive t slot place new h is covers k =
     elim (cases_eq k slot) [
       | inl same ↦
@@ -107,19 +107,19 @@ set_grown reflexive t slot place new h is covers k =
     ]
 
 -- a place that was found is inside, so the element there needs no default
-pub found_there : (t : TableValue) (slot place : ℕ) (old : Option StateValue) → Some place ≡ entry_of t slot → old ≡ slice_index_or t.entries place old → slice_index_or t.entries place None ≡ old
+pub found_there : (t : TableValue) (slot place : ℕ) (old : Option StateValue) → Some place ≡ entry_place_of t slot → old ≡ slice_index_or t.entries place old → slice_index_or t.entries place None ≡ old
 found_there t slot place old is there =
     let found = entry_is t slot place is in
     let inside : place < length t.entries = subst (λ (i : ℕ). i < length t.entries) (sym found.0) found.1 in
     get_or_default t.entries place None old inside ∙ sym there
 
 -- what covers the entry that was found covers what was known
-pub found_covers : (t : TableValue) (slot place : ℕ) (old new : Option StateValue) → Some place ≡ entry_of t slot → slice_index_or t.entries place None ≡ old → IsCoveredIfAny old new → IsCoveredIfAny (knowledge_in t slot) new
+pub found_covers : (t : TableValue) (slot place : ℕ) (old new : Option StateValue) → Some place ≡ entry_place_of t slot → slice_index_or t.entries place None ≡ old → IsCoveredIfAny old new → IsCoveredIfAny (knowledge_in t slot) new
 found_covers t slot place old new is there covers =
     let found = entry_is t slot place is in
     subst (λ (o : Option StateValue). IsCoveredIfAny o new) (sym there ∙ ap (λ (i : ℕ). slice_index_or t.entries i None) found.0) covers
 
-pub set_whole : (t : TableValue) (slot place : ℕ) (new : Option StateValue) → AreEntries t → Some place ≡ entry_of t slot → IfSome new IsWhole → AreWhole (knowledge_in t) → (k : ℕ) → IfSome (slice_index_or (slice_set t.entries place new) (place_at t.places k) None) IsWhole
+pub set_whole : (t : TableValue) (slot place : ℕ) (new : Option StateValue) → AreEntries t → Some place ≡ entry_place_of t slot → IfSome new IsWhole → AreWhole (knowledge_in t) → (k : ℕ) → IfSome (slice_index_or (slice_set t.entries place new) (place_at t.places k) None) IsWhole
 set_whole t slot place new h is whole was k =
     elim (cases_eq k slot) [
       | inl same ↦

@@ -6,8 +6,8 @@ use Rattle.bpf.specs.Program.{Program}
 use Rattle.machine.specs.Step.{insn_at}
 use Rattle.absdom.specs.State.{StateValue}
 use Rattle.bver_form.specs.Jumps.{first_slot}
-use Rattle.bver_pass.specs.Table.{TableValue, knowledge_in}
-use Rattle.bver_pass.specs.Visit.{IsGrown as HasGrown, IsLeast, IsLeastOf}
+use Rattle.bver_pass.specs.StateTable.{TableValue, knowledge_in}
+use Rattle.bver_pass.specs.Visit.{IsTableGrown as HasGrown, IsLeast, IsLeastOf}
 use Rattle.bver_pass.specs.Justified.{IsCovered, IsCoveredIfAny, knowledge_at}
 
 -- ---- what comes to a slot

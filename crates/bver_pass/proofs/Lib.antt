@@ -8,4 +8,4 @@ pub mod Masks
 pub mod Lowering
 pub mod Landing
 pub mod Straight
-pub mod Telling
+pub mod Reporting

@@ -17,7 +17,7 @@ use Rattle.bver_form.specs.declared.refusal.Refused.{Refused}
 use Rattle.bver_pass.specs.Faults.{fault_in, fault_of}
 use Rattle.bver_pass.specs.Justified.{IsPermitted, IsResultCovered}
 use Rattle.bver_pass.specs.Leading.{GivesBelow, IsFlowFault, LeadsBelow, refutes}
-use Rattle.bver_pass.specs.Table.{TableValue}
+use Rattle.bver_pass.specs.StateTable.{TableValue}
 use Rattle.bver_pass.specs.Unjustified.{IsRefuted}
 use Rattle.bver_pass.specs.Visit.{IsLeastNext, VisitValue}
 

@@ -12,7 +12,7 @@ use Rattle.absdom_stack.specs.StackWords.{AreAllWhole}
 use Rattle.bver_form.specs.Jumps.{is_loop_back}
 use Rattle.bver_pass.specs.Heads.{AreWidenedRanges, IsDeclared, IsWidened, IsWidenedKind, retains, forgets}
 use Rattle.bver_pass.proofs.Loops.{loop_in}
-use Rattle.bver_form.proofs.Told.{from_eqb}
+use Rattle.bver_form.proofs.Reported.{from_eqb}
 
 -- the registers below one were widened, and the ranges of words
 pub record IsWidening (p : Program) (l : Loop) (lowered : List Bool) (place : ℕ) (before now : StateValue) (from : ℕ) : Type 0 where

@@ -72,5 +72,5 @@ fault_of spill maps a (Call callee number) = calling_fault maps (helper_of numbe
 fault_of spill maps a Exit = fault_in (number_of (kind_at a 0))
 
 -- a test is passed if there is no fault, and else it refuses for the fault
-abbrev pub TellsFault : {T : Type 0} → Result T Refused → Option Refusal → Type 0
-TellsFault result fault = MatchResult result (λ _. fault ≡ None) (λ refused. fault ≡ Some refused.code)
+abbrev pub RefusesForFault : {T : Type 0} → Result T Refused → Option Refusal → Type 0
+RefusesForFault result fault = MatchResult result (λ _. fault ≡ None) (λ refused. fault ≡ Some refused.code)

@@ -23,7 +23,7 @@ use Rattle.absdom_num.specs.Tables.{whole_range}
 use Rattle.absdom.specs.declared.cause.Cause.{Cause}
 use Rattle.absdom.specs.declared.kinds.AbsKind.{AbsKind}
 use Rattle.absdom.specs.declared.kinds.AbsKind.TheVariants.{Unset, Num, Ptr, Map}
-use Rattle.absdom.specs.State.{StateValue, IsEntry, IsBelow, after_call, kind_at}
+use Rattle.absdom.specs.State.{StateValue, IsEntry, IsStateBelow, after_call, kind_at}
 use Rattle.absdom_stack.specs.StackWords.{AreAllWhole}
 use Rattle.absdom_stack.specs.declared.spill.Spill.{Spill}
 use Rattle.absdom_stack.specs.declared.spill.Spill.TheVariants.{Keeps}
@@ -40,7 +40,7 @@ use Rattle.bver_form.specs.Loops.{holds}
 -- whoever knows this knows all that the slot's state says, so a run may go there with it
 abbrev pub IsCovered : StateValue → (there : Option StateValue) → Type 0
 IsCovered a None = ⊥
-IsCovered a (Some b) = IsBelow a b
+IsCovered a (Some b) = IsStateBelow a b
 
 -- the same, if there is anything to cover: nothing is known on an edge that no run takes
 abbrev pub IsCoveredIfAny : Option StateValue → (there : Option StateValue) → Type 0
@@ -217,13 +217,13 @@ pointed_region (Ptr region offsets) = Some region
 pointed_region (Map index) = None
 
 -- the region into which a base register points, if there is one
-abbrev pub region_of : StateValue → Option ℕ → Option Region
-region_of a None = None
-region_of a (Some base) = pointed_region (kind_at a base)
+abbrev pub base_region_of : StateValue → Option ℕ → Option Region
+base_region_of a None = None
+base_region_of a (Some base) = pointed_region (kind_at a base)
 
 -- the region that an instruction accesses
 abbrev pub accessed_region : StateValue → Insn → Option Region
-accessed_region a insn = region_of a (accessed_base insn)
+accessed_region a insn = base_region_of a (accessed_base insn)
 
 -- the region that is accessed at a slot; none if no run comes there
 abbrev pub region_at : Option StateValue → Option Insn → Option Region

@@ -21,7 +21,7 @@ use Rattle.bver_form.specs.declared.refusal.Refused.{Refused}
 use Rattle.bver_pass.specs.Faults.{fault_of}
 use Rattle.bver_pass.specs.Heads.{Falls, IsDeclared, IsWidened, IsWithinBound}
 use Rattle.bver_pass.specs.Justified.{IsCovered, IsCoveredIfAny, edges_of_comparison, knowledge_at}
-use Rattle.bver_pass.specs.Table.{TableValue, knowledge_in}
+use Rattle.bver_pass.specs.StateTable.{TableValue, knowledge_in}
 use Rattle.bver_pass.specs.Unjustified.{IsRefuted}
 use Rattle.bver_pass.specs.Visit.{IsLeastNext, VisitValue, visited_state}
 
@@ -159,16 +159,16 @@ pub record EntersOutside (p : Program) (slot : ℕ) (a : StateValue) : Type 0 wh
   pub outside : IsWithinBound declared a → ⊥
 
 -- what comes to the slot is refused there for that, and the refusal gives it as it came
-pub record IsHeadFault (v : VisitValue) (before told : StateValue) (refused : Refused) : Type 0 where
+pub record IsHeadFault (v : VisitValue) (before reported : StateValue) (refused : Refused) : Type 0 where
   pub slot : refused.slot ≡ v.slot
   pub code : refused.code ≡ LoopEntry
   pub outside : EntersOutside v.program v.slot before
-  pub as_it_came : told ≡ before
+  pub as_it_came : reported ≡ before
 
 -- something comes there, and is refused so
-abbrev pub IsHeadFaultIfAny : (v : VisitValue) → Option StateValue → (told : StateValue) → Refused → Type 0
-IsHeadFaultIfAny v None told refused = ⊥
-IsHeadFaultIfAny v (Some before) told refused = IsHeadFault v before told refused
+abbrev pub IsHeadFaultIfAny : (v : VisitValue) → Option StateValue → (reported : StateValue) → Refused → Type 0
+IsHeadFaultIfAny v None reported refused = ⊥
+IsHeadFaultIfAny v (Some before) reported refused = IsHeadFault v before reported refused
 
 -- ---- a visit
 
@@ -212,15 +212,15 @@ IsLeastVisitIfAny v lowered now old new was runs before after (Some insn) =
 -- what comes to the slot is refused there: at the head of a loop, or with the instruction. The refusal gives what
 -- came to the head, or what was known at the instruction
 pub data IsVisitFault (v : VisitValue) (lowered : List Bool) (known : ℕ → Option StateValue) (before : StateValue)
-    (insn : Insn) (told : StateValue) (refused : Refused) : Type 0 where
-  enters : IsHeadFault v before told refused → IsVisitFault v lowered known before insn told refused
-  leads : IsWhole told → IsWidenedAt v.program lowered v.slot before told
-      → IsFlowFault v lowered known told insn refused → IsVisitFault v lowered known before insn told refused
+    (insn : Insn) (reported : StateValue) (refused : Refused) : Type 0 where
+  enters : IsHeadFault v before reported refused → IsVisitFault v lowered known before insn reported refused
+  leads : IsWhole reported → IsWidenedAt v.program lowered v.slot before reported
+      → IsFlowFault v lowered known reported insn refused → IsVisitFault v lowered known before insn reported refused
 
 -- there is an instruction, and what comes there is refused
 abbrev pub IsVisitFaultIfAny : (v : VisitValue) (lowered : List Bool) (known : ℕ → Option StateValue)
-    → Option StateValue → Option Insn → (told : StateValue) → Refused → Type 0
-IsVisitFaultIfAny v lowered known before None told refused = ⊥
-IsVisitFaultIfAny v lowered known None (Some insn) told refused = ⊥
-IsVisitFaultIfAny v lowered known (Some before) (Some insn) told refused =
-    IsVisitFault v lowered known before insn told refused
+    → Option StateValue → Option Insn → (reported : StateValue) → Refused → Type 0
+IsVisitFaultIfAny v lowered known before None reported refused = ⊥
+IsVisitFaultIfAny v lowered known None (Some insn) reported refused = ⊥
+IsVisitFaultIfAny v lowered known (Some before) (Some insn) reported refused =
+    IsVisitFault v lowered known before insn reported refused

@@ -4,7 +4,7 @@ pub mod Justified
 pub mod Faults
 pub mod Heads
 pub mod Written
-pub mod Table
+pub mod StateTable
 pub mod Unjustified
 pub mod Visit
 pub mod Leading

@@ -27,5 +27,5 @@ abbrev pub IsRefuted : Spill → (maps : Maps) (slot : ℕ) → StateValue → I
 IsRefuted spill maps slot a insn = (table : ℕ → Option StateValue) → IsPermitted spill maps table slot a insn → ⊥
 
 -- a refusal, except for refused memory, says that the program is not justified
-abbrev pub TellsUnjustified : Program → Maps → Refused → Type 0
-TellsUnjustified p maps refused = refused.code ≢ Memory → IsJustified p maps → ⊥
+abbrev pub ReportsUnjustified : Program → Maps → Refused → Type 0
+ReportsUnjustified p maps refused = refused.code ≢ Memory → IsJustified p maps → ⊥

@@ -13,42 +13,42 @@ use Rattle.machine.specs.declared.regions.Region.{Region}
 use Rattle.machine.specs.Step.{insn_at}
 use Rattle.absdom.specs.declared.cause.Cause.{Cause}
 use Rattle.absdom.specs.Edges.{Edges}
-use Rattle.absdom.specs.State.{StateValue, IsBelow, IsWhole}
+use Rattle.absdom.specs.State.{StateValue, IsStateBelow, IsWhole}
 use Rattle.absdom_stack.specs.Spill.{spill_of}
 use Rattle.bver_form.specs.Jumps.{first_slot, target}
 use Rattle.bver_pass.specs.Justified.{AreEdgesCovered, IsHead, IsCovered, IsCoveredIfAny, IsEntered, IsPermittedAt}
 use Rattle.bver_pass.specs.Justified.{region_at, knowledge_at}
 use Rattle.bver_pass.specs.Heads.{AreHeadsAt}
-use Rattle.bver_pass.specs.Table.{TableValue, knowledge_beside, knowledge_in, knowledge_next}
+use Rattle.bver_pass.specs.StateTable.{TableValue, knowledge_beside, knowledge_in, knowledge_next}
 use Rattle.bver_form.specs.Targets.{IsPlain, landing_from}
 
 -- ---- what is known at each slot
 
 -- all that was known before is covered by what is known after
-abbrev pub IsGrown : (old new : ℕ → Option StateValue) → Type 0
-IsGrown old new = (slot : ℕ) → IsCoveredIfAny (old slot) (new slot)
+abbrev pub IsTableGrown : (old new : ℕ → Option StateValue) → Type 0
+IsTableGrown old new = (slot : ℕ) → IsCoveredIfAny (old slot) (new slot)
 
 -- no more is known at a slot than before, and than is known along an edge to it: what covers both covers it
 abbrev pub IsLeast : (old : Option StateValue) → StateValue → (new : Option StateValue) → Type 0
 IsLeast old edge new =
-    (above : StateValue) → IsCoveredIfAny old (Some above) → IsBelow edge above → IsCoveredIfAny new (Some above)
+    (above : StateValue) → IsCoveredIfAny old (Some above) → IsStateBelow edge above → IsCoveredIfAny new (Some above)
 
 -- no more is known in a table than before, and than what was followed to there: what covers both covers it
 abbrev pub IsLeastOf : (followed : (ℕ → Option StateValue) → Type 0) (old new : TableValue) → Type 0
 IsLeastOf followed old new =
-    (above : ℕ → Option StateValue) → IsGrown (knowledge_in old) above → followed above
-    → IsGrown (knowledge_in new) above
+    (above : ℕ → Option StateValue) → IsTableGrown (knowledge_in old) above → followed above
+    → IsTableGrown (knowledge_in new) above
 
 -- the same, and of the running state, if it is at the next slot
 abbrev pub IsLeastNext : (followed : (ℕ → Option StateValue) → Type 0) (old new : TableValue) (runs : Bool) (next : ℕ)
     → StateValue → Type 0
 IsLeastNext followed old new runs next state =
-    (above : ℕ → Option StateValue) → IsGrown (knowledge_in old) above → followed above
-    → IsGrown (knowledge_in new) above × (IsTrue runs → IsCovered state (above next))
+    (above : ℕ → Option StateValue) → IsTableGrown (knowledge_in old) above → followed above
+    → IsTableGrown (knowledge_in new) above × (IsTrue runs → IsCovered state (above next))
 
 -- something is known only at slots at which an instruction begins
-abbrev pub IsPlaced : Program → (known : ℕ → Option StateValue) → Type 0
-IsPlaced p known = (slot : ℕ) → IsSome (known slot) → IsSome (insn_at p slot)
+abbrev pub AreFactsPlaced : Program → (known : ℕ → Option StateValue) → Type 0
+AreFactsPlaced p known = (slot : ℕ) → IsSome (known slot) → IsSome (insn_at p slot)
 
 -- what is known is whole
 abbrev pub AreWhole : (known : ℕ → Option StateValue) → Type 0
@@ -57,7 +57,7 @@ AreWhole known = (slot : ℕ) → IfSome (known slot) IsWhole
 -- the table grew only from this slot on
 pub record IsExtended (from : ℕ) (old new : TableValue) : Type 0 where
   pub program : new.program ≡ old.program
-  pub grown : IsGrown (knowledge_in old) (knowledge_in new)
+  pub grown : IsTableGrown (knowledge_in old) (knowledge_in new)
   pub kept : (k : ℕ) → k < from → knowledge_in new k ≡ knowledge_in old k
   pub whole : AreWhole (knowledge_in old) → AreWhole (knowledge_in new)
 
@@ -86,9 +86,9 @@ knowledge_at_target v distance known = knowledge_at known (target v.slot distanc
 
 -- The edges of a comparison were followed. What they lead to is known at the slot to which it jumps, and at the next
 -- slot. If the state runs on, it is at the next slot.
-abbrev pub AreFollowed : VisitValue → (distance : ℤ) → Result Edges Cause → TableValue → StateValue → (runs : Bool)
+abbrev pub AreEdgesFollowed : VisitValue → (distance : ℤ) → Result Edges Cause → TableValue → StateValue → (runs : Bool)
     → Type 0
-AreFollowed v distance edges table state runs =
+AreEdgesFollowed v distance edges table state runs =
     AreEdgesCovered edges (knowledge_at_target v distance (knowledge_beside table runs (v.slot + 1) state))
     (knowledge_next table runs (v.slot + 1) state)
 
@@ -160,12 +160,12 @@ IsVisit v old new was runs before after settled region (Some insn) =
 -- what is known at entry is covered at slot 0, and something is known only at slots at which an instruction begins
 pub record AreEntered (p : Program) (known : ℕ → Option StateValue) : Type 0 where
   pub entered : IsEntered (known 0)
-  pub placed : IsPlaced p known
+  pub placed : AreFactsPlaced p known
   pub whole : AreWhole known
 
 -- no more is known than at entry: what covers that covers all
 abbrev pub IsLeastEntry : (known : ℕ → Option StateValue) → Type 0
-IsLeastEntry known = (above : ℕ → Option StateValue) → IsEntered (above 0) → IsGrown known above
+IsLeastEntry known = (above : ℕ → Option StateValue) → IsEntered (above 0) → IsTableGrown known above
 
 -- at each head before the slot, what is known holds in every pass
 abbrev pub AreHeadsBefore : Program → (known : ℕ → Option StateValue) → (slot : ℕ) → Type 0

@@ -4,11 +4,11 @@ ghost use Rattle.std.specs.Prelude.{◌≡◌, ◌≢◌, ◌≤◌, ◌<◌, �
 ghost use Rattle.absdom.specs.State.{kind_at};
 ghost use Rattle.bver_pass.specs.Justified.{HasStore, IsCovered, IsWrittenIn};
 ghost use Rattle.bver_form.specs.Lowered.{IsMore, IsSettled};
-ghost use Rattle.bver_pass.specs.Table.{knowledge_in};
+ghost use Rattle.bver_pass.specs.StateTable.{knowledge_in};
 ghost use Rattle.bver_pass.specs.Heads.{AreLowered, AreWidenedRanges, BodyValue, Falls, IsClosingFault, IsDeclared, IsEntryFault, IsWidened, IsWidenedKind, IsWithinBound, opened_kind};
 ghost use Rattle.bver_pass.specs.Written.{AreWrittenByLoops, IsWrittenByLoop};
 
-use crate::table::{Table, is_number};
+use crate::table::{StateTable, is_number};
 use crate::written::Written;
 use absdom::{AbsKind, State};
 use absdom_num::Range;
@@ -28,7 +28,7 @@ pub struct Body<'a> {
 
 impl<'a> Model for Body<'a> {
     ghost use Rattle.bver_form.specs.Lowered.{IsMore, IsSettled};
-    ghost use Rattle.bver_pass.specs.Table.{knowledge_in};
+    ghost use Rattle.bver_pass.specs.StateTable.{knowledge_in};
     ghost use Rattle.bver_pass.specs.Heads.{BodyValue, Falls, IsDeclared};
     ghost use Rattle.bver_pass.specs.Written.{IsWrittenByLoop};
 
@@ -189,7 +189,7 @@ impl<'a> Body<'a> {
     }
 
     /// Whether an edge back to the head lowers the register: the loop writes it, and it is a number only at the head.
-    fn falls(&self, table: &Table<'_>, edge: &State, register: Register) -> bool
+    fn falls(&self, table: &StateTable<'_>, edge: &State, register: Register) -> bool
         requires { self.now.declared.head < length table.now.program.slots }
         ensures { IsTrue result ↔ Falls self.now
             (knowledge_in table.now self.now.declared.head) edge.now register }
@@ -200,7 +200,7 @@ impl<'a> Body<'a> {
     }
 
     /// Lowers the register if an edge back to the head lowers it.
-    fn lower_one(&self, table: &Table<'_>, edge: &State, lowered: &mut Lowered, register: Register)
+    fn lower_one(&self, table: &StateTable<'_>, edge: &State, lowered: &mut Lowered, register: Register)
         requires inside { self.now.declared.head < length table.now.program.slots }
         requires register { register ≤ 9 }
         ensures { AreLowered self.now (knowledge_in table.now self.now.declared.head) edge.now
@@ -212,7 +212,7 @@ impl<'a> Body<'a> {
     }
 
     /// Lowers each register that an edge back to the head lowers.
-    fn lower(&self, table: &Table<'_>, edge: &State, lowered: &mut Lowered)
+    fn lower(&self, table: &StateTable<'_>, edge: &State, lowered: &mut Lowered)
         requires { self.now.declared.head < length table.now.program.slots }
         ensures { AreLowered self.now (knowledge_in table.now self.now.declared.head) edge.now
             (λ r. r ≤ 9) lowered.old lowered.new }
@@ -232,7 +232,7 @@ impl<'a> Body<'a> {
     /// `LoopEntry` at the head: it neither lowers a register nor is covered.
     pub fn close(
         &self,
-        table: &Table<'_>,
+        table: &StateTable<'_>,
         edge: &State,
         lowered: &mut Lowered,
     ) -> Result<(), Refused>

@@ -11,16 +11,16 @@ ghost use Rattle.absdom.specs.State.{after_call, kind_at};
 ghost use Rattle.bver_form.specs.Form.{IsAllowed};
 ghost use Rattle.bver_form.specs.Jumps.{IsJump};
 ghost use Rattle.bver_pass.specs.Codes.{refusal_of};
-ghost use Rattle.bver_pass.specs.Faults.{TellsFault, argument_fault, asking_fault, calling_fault, fault_in};
+ghost use Rattle.bver_pass.specs.Faults.{RefusesForFault, argument_fault, asking_fault, calling_fault, fault_in};
 ghost use Rattle.bver_pass.specs.Justified.{HasArgument, IsCovered, IsCoveredIfAny, IsNumber, IsPermitted, IsResultCovered, MayAsk, MayCall, accessed_region, edges_of_comparison, pointed_region};
 ghost use Rattle.bver_form.specs.Lowered.{IsMore, IsSettled};
 ghost use Rattle.bver_pass.specs.Refusals.{IsValueFault, IsValueRefusal};
-ghost use Rattle.bver_pass.specs.Table.{knowledge_beside, knowledge_in, knowledge_next};
+ghost use Rattle.bver_pass.specs.StateTable.{knowledge_beside, knowledge_in, knowledge_next};
 ghost use Rattle.bver_form.specs.Targets.{IsPlain};
 ghost use Rattle.bver_pass.specs.Leading.{AreLoweredBack, BranchesBelow, IsFlowFault, GivesBelow, IsUncovered, IsUncoveredIfAny, LeadsBelow, jumping_state, outcome_at, taken_state};
-ghost use Rattle.bver_pass.specs.Visit.{AreFollowed, GoesOnPlain, HasNext, IsExtendedAfter, IsLeastNext, IsLeastOf, IsNext, IsTableOf, LeadsBy, knowledge_at_target};
+ghost use Rattle.bver_pass.specs.Visit.{AreEdgesFollowed, GoesOnPlain, HasNext, IsExtendedAfter, IsLeastNext, IsLeastOf, IsNext, IsTableOf, LeadsBy, knowledge_at_target};
 
-use crate::table::Table;
+use crate::table::StateTable;
 use crate::visit::Visit;
 use absdom::{AbsKind, Cause, Edges, Operands, Region, State, order_of_states, refine};
 use absdom_num::Range;
@@ -46,7 +46,7 @@ fn refusal_of(cause: Cause) -> Refusal
 /// Follows a jump by this distance in slots: forward, or back to the head of a loop.
 fn jump(
     visit: &Visit,
-    table: &mut Table<'_>,
+    table: &mut StateTable<'_>,
     lowered: &mut Lowered,
     distance: i32,
     state: &State,
@@ -91,7 +91,7 @@ fn jump(
 /// there.
 fn follow_taken(
     visit: &Visit,
-    table: &mut Table<'_>,
+    table: &mut StateTable<'_>,
     lowered: &mut Lowered,
     state: &State,
     spare: &mut State,
@@ -135,7 +135,7 @@ fn follow_taken(
 }
 
 /// Goes on to the next instruction, `slots` slots further. The result is whether the state is the running one there.
-fn go_on(visit: &Visit, table: &mut Table<'_>, state: &State, slots: u16) -> bool
+fn go_on(visit: &Visit, table: &mut StateTable<'_>, state: &State, slots: u16) -> bool
     requires table { IsTableOf visit.now table.old }
     requires next { IsNext visit.now slots }
     ensures covered { IsCovered state.now
@@ -153,7 +153,7 @@ fn go_on(visit: &Visit, table: &mut Table<'_>, state: &State, slots: u16) -> boo
 /// there.
 fn follow_not_taken(
     visit: &Visit,
-    table: &mut Table<'_>,
+    table: &mut StateTable<'_>,
     state: &mut State,
     comparison: &Comparison,
     edge: &Option<Operands>,
@@ -183,7 +183,7 @@ fn follow_not_taken(
 /// Follows the edges of a comparison. The result is whether the state is the running one at the next instruction.
 fn branch(
     visit: &Visit,
-    table: &mut Table<'_>,
+    table: &mut StateTable<'_>,
     lowered: &mut Lowered,
     state: &mut State,
     spare: &mut State,
@@ -198,7 +198,7 @@ fn branch(
     requires next { IsNext visit.now 1 }
     ensures covered { IfOk result
         (λ runs. IsSettled lowered.old lowered.new
-        → AreFollowed visit.now distance
+        → AreEdgesFollowed visit.now distance
         (Ok (edge_states state.old comparison.now.dst comparison.now.src edges.now))
         table.new state.new runs) }
     ensures least { IfOk result
@@ -239,7 +239,7 @@ fn branch(
 /// Follows both edges of a comparison. The result is whether the state is the running one at the next instruction.
 fn compare(
     visit: &Visit,
-    table: &mut Table<'_>,
+    table: &mut StateTable<'_>,
     lowered: &mut Lowered,
     state: &mut State,
     spare: &mut State,
@@ -253,7 +253,7 @@ fn compare(
     requires next { IsNext visit.now 1 }
     ensures covered { IfOk result
         (λ runs. IsSettled lowered.old lowered.new
-        → AreFollowed visit.now offset
+        → AreEdgesFollowed visit.now offset
         (edges_of_comparison state.old comparison.now)
         table.new state.new runs) }
     ensures least { IfOk result
@@ -304,7 +304,7 @@ fn compare(
 /// An instruction that goes on to the next one. The result is whether the state is the running one there.
 fn straight(
     visit: &Visit,
-    table: &mut Table<'_>,
+    table: &mut StateTable<'_>,
     state: &mut State,
     insn: &Insn,
 ) -> Result<bool, Refused>
@@ -356,7 +356,7 @@ fn number_in(visit: &Visit, state: &State, register: u8) -> Result<Range, Refuse
     requires register { register ≤ 10 }
     ensures number { MatchResult result (λ n. number_of (kind_at state.now register) ≡ Ok n)
         (λ _. IsErr (number_of (kind_at state.now register))) }
-    ensures fault { TellsFault result (fault_in (number_of (kind_at state.now register))) }
+    ensures fault { RefusesForFault result (fault_in (number_of (kind_at state.now register))) }
     ensures refused { IfErr result (IsValueFault visit.now.program) }
     ensures slot { IfErr result (λ refused. refused.slot ≡ visit.now.slot) }
 {
@@ -374,7 +374,7 @@ fn check_answer(visit: &Visit, state: &State) -> Result<(), Refused>
     requires begins { IsSome (insn_at visit.now.program visit.now.slot) }
     ensures answer { MatchResult result (λ _. IsNumber (kind_at state.now 0))
         (λ _. IsNumber (kind_at state.now 0) → ⊥) }
-    ensures fault { TellsFault result (fault_in (number_of (kind_at state.now 0))) }
+    ensures fault { RefusesForFault result (fault_in (number_of (kind_at state.now 0))) }
     ensures refused { IfErr result (IsValueFault visit.now.program) }
     ensures slot { IfErr result (λ refused. refused.slot ≡ visit.now.slot) }
 {
@@ -387,7 +387,7 @@ fn asked_map(visit: &Visit, state: &State) -> Result<u8, Refused>
     requires begins { IsSome (insn_at visit.now.program visit.now.slot) }
     ensures map { MatchResult result (λ map. map_of (kind_at state.now 1) ≡ Ok map)
         (λ _. IsErr (map_of (kind_at state.now 1))) }
-    ensures fault { TellsFault result (fault_in (map_of (kind_at state.now 1))) }
+    ensures fault { RefusesForFault result (fault_in (map_of (kind_at state.now 1))) }
     ensures refused { IfErr result (IsValueFault visit.now.program) }
     ensures slot { IfErr result (λ refused. refused.slot ≡ visit.now.slot) }
 {
@@ -405,7 +405,7 @@ fn check_argument(visit: &Visit, state: &State, helper: Helper) -> Result<(), Re
     requires begins { IsSome (insn_at visit.now.program visit.now.slot) }
     ensures argument { MatchResult result (λ _. HasArgument helper (kind_at state.now 3))
         (λ _. HasArgument helper (kind_at state.now 3) → ⊥) }
-    ensures fault { TellsFault result (argument_fault helper (kind_at state.now 3)) }
+    ensures fault { RefusesForFault result (argument_fault helper (kind_at state.now 3)) }
     ensures refused { IfErr result (IsValueFault visit.now.program) }
     ensures slot { IfErr result (λ refused. refused.slot ≡ visit.now.slot) }
 {
@@ -422,7 +422,7 @@ fn check_asked(visit: &Visit, state: &State, helper: Helper) -> Result<(), Refus
     requires begins { IsSome (insn_at visit.now.program visit.now.slot) }
     ensures asked { MatchResult result (λ _. MayAsk visit.now.maps helper state.now)
         (λ _. MayAsk visit.now.maps helper state.now → ⊥) }
-    ensures fault { TellsFault result (asking_fault visit.now.maps helper state.now) }
+    ensures fault { RefusesForFault result (asking_fault visit.now.maps helper state.now) }
     ensures refused { IfErr result (IsValueFault visit.now.program) }
     ensures slot { IfErr result (λ refused. refused.slot ≡ visit.now.slot) }
 {
@@ -444,7 +444,7 @@ fn check_called(visit: &Visit, state: &State, number: i32) -> Result<(), Refused
     requires known { IsTrue (knows_helper visit.now.program.version (helper_of number)) }
     ensures called { MatchResult result (λ _. MayCall visit.now.maps (helper_of number) state.now)
         (λ _. MayCall visit.now.maps (helper_of number) state.now → ⊥) }
-    ensures fault { TellsFault result
+    ensures fault { RefusesForFault result
         (calling_fault visit.now.maps (helper_of number) state.now) }
     ensures refused { IfErr result (IsValueFault visit.now.program) }
     ensures slot { IfErr result (λ refused. refused.slot ≡ visit.now.slot) }
@@ -459,7 +459,7 @@ fn check_called(visit: &Visit, state: &State, number: i32) -> Result<(), Refused
 /// instruction.
 fn call(
     visit: &Visit,
-    table: &mut Table<'_>,
+    table: &mut StateTable<'_>,
     state: &mut State,
     number: i32,
 ) -> Result<bool, Refused>
@@ -528,7 +528,7 @@ pub fn accessed_region(state: &State, insn: &Insn) -> Option<Region>
 /// - `LoopEntry` at a head: an edge back to it lowers no register there and is not covered.
 pub fn flow(
     visit: &Visit,
-    table: &mut Table<'_>,
+    table: &mut StateTable<'_>,
     lowered: &mut Lowered,
     state: &mut State,
     spare: &mut State,

@@ -1,6 +1,6 @@
 //! One slot of the verifier's pass: what is known there, what its instruction does to that, and why it is refused.
 //!
-//! - A [`Table`] holds what is known at the slots to which a program jumps.
+//! - A [`StateTable`] holds what is known at the slots to which a program jumps.
 //! - A [`Visit`] is of one slot, and [`flow`] follows the edges of its instruction.
 //! - A [`Body`] is a loop. What is known at its head is widened by what the loop writes ([`Written`]).
 //!
@@ -17,6 +17,6 @@ mod written;
 
 pub use body::Body;
 pub use edges::{accessed_region, flow};
-pub use table::Table;
+pub use table::StateTable;
 pub use visit::Visit;
 pub use written::Written;

@@ -6,8 +6,8 @@ ghost use Rattle.bver_pass.specs.Justified.{IsCovered, IsCoveredIfAny};
 ghost use Rattle.absdom.specs.State.{IsWhole};
 ghost use Rattle.bver_pass.specs.Heads.{is_number, is_number_at};
 ghost use Rattle.bver_form.specs.Targets.{IsKept};
-ghost use Rattle.bver_pass.specs.Table.{AreEntries, entry_of, knowledge_in, knowledge_next};
-ghost use Rattle.bver_pass.specs.Visit.{AreWhole, IsGrown, IsLeast};
+ghost use Rattle.bver_pass.specs.StateTable.{AreEntries, entry_place_of, knowledge_in, knowledge_next};
+ghost use Rattle.bver_pass.specs.Visit.{AreWhole, IsTableGrown, IsLeast};
 
 use absdom::{AbsKind, State, join_is_least, order_of_states};
 use bpf::Image;
@@ -114,15 +114,15 @@ impl Known {
 /// What is known at slot 0 and at each slot to which the program jumps, by rising slot. There is no entry for any
 /// other slot. Nothing is known at a slot to which no edge was followed.
 #[derive(Drop)]
-pub struct Table<'a> {
+pub struct StateTable<'a> {
     image: &'a Image,
     /// The place of each slot's entry, and [`NOWHERE`] for a slot that has none.
     places: Vec<u16>,
     entries: Vec<Known>,
 }
 
-impl<'a> Model for Table<'a> {
-    ghost use Rattle.bver_pass.specs.Table.{AreEntries, TableValue};
+impl<'a> Model for StateTable<'a> {
+    ghost use Rattle.bver_pass.specs.StateTable.{AreEntries, TableValue};
 
     ghost Value = { TableValue };
 
@@ -131,20 +131,20 @@ impl<'a> Model for Table<'a> {
     ghost invariant = { λ t. AreEntries (record { program = t.image.now; places = t.places.items; entries = t.entries.items }) };
 }
 
-impl<'a> Table<'a> {
+impl<'a> StateTable<'a> {
     /// The table of a program at which nothing is known. The call asks for memory three times.
     ///
     /// # Errors
     ///
     /// Memory is refused.
-    pub fn new(alloc: Global, image: &'a Image) -> Result<Table<'a>, AllocError>
+    pub fn new(alloc: Global, image: &'a Image) -> Result<StateTable<'a>, AllocError>
         ensures program { IfOk result (λ table. table.program ≡ image.now) }
         ensures nothing { IfOk result (λ table. (slot : ℕ) → knowledge_in table slot ≡ None) }
     {
         let kept = kept_slots(alloc, image)?;
         let mut places = vec![in alloc; NOWHERE; kept.len()]?;
         let count = number_slots(&kept, &mut places);
-        Ok(Table {
+        Ok(StateTable {
             image,
             places,
             entries: vec![in alloc; Known::nothing(); usize::from(count)]?,
@@ -164,7 +164,7 @@ impl<'a> Table<'a> {
     /// The place of a slot's entry, if it has one.
     fn entry(&self, slot: u16) -> Option<usize>
         requires { slot < length self.now.program.slots }
-        ensures { result ≡ entry_of self.now slot }
+        ensures { result ≡ entry_place_of self.now slot }
     {
         let place = usize::from(self.places[usize::from(slot)]);
         if place < self.entries.len() {
@@ -193,7 +193,7 @@ impl<'a> Table<'a> {
         ensures covered { IsCovered state.now (knowledge_in self.new slot) }
         ensures least { IsLeast (knowledge_in self.old slot) state.now
             (knowledge_in self.new slot) }
-        ensures grown { IsGrown (knowledge_in self.old) (knowledge_in self.new) }
+        ensures grown { IsTableGrown (knowledge_in self.old) (knowledge_in self.new) }
         ensures others { (k : ℕ) → k ≢ slot → knowledge_in self.new k ≡ knowledge_in self.old k }
         ensures whole { IfSome (knowledge_in self.new slot) IsWhole }
         ensures all_whole { AreWhole (knowledge_in self.old) → AreWhole (knowledge_in self.new) }
@@ -215,7 +215,7 @@ impl<'a> Table<'a> {
         ensures least { IsFalse result → IsLeast (knowledge_in self.old slot) state.now
             (knowledge_in self.new slot) }
         ensures same { IsTrue result → self.new ≡ self.old }
-        ensures grown { IsGrown (knowledge_in self.old) (knowledge_in self.new) }
+        ensures grown { IsTableGrown (knowledge_in self.old) (knowledge_in self.new) }
         ensures others { (k : ℕ) → k ≢ slot → knowledge_in self.new k ≡ knowledge_in self.old k }
         ensures all_whole { AreWhole (knowledge_in self.old) → AreWhole (knowledge_in self.new) }
     {
@@ -246,7 +246,7 @@ impl<'a> Table<'a> {
         requires covers { IsCoveredIfAny (knowledge_in self.old slot) (Some state.now) }
         ensures program { self.new.program ≡ self.old.program }
         ensures known { knowledge_in self.new slot ≡ Some state.now }
-        ensures grown { IsGrown (knowledge_in self.old) (knowledge_in self.new) }
+        ensures grown { IsTableGrown (knowledge_in self.old) (knowledge_in self.new) }
         ensures others { (k : ℕ) → k ≢ slot → knowledge_in self.new k ≡ knowledge_in self.old k }
         ensures all_whole { AreWhole (knowledge_in self.old) → AreWhole (knowledge_in self.new) }
     {

@@ -16,8 +16,8 @@ use Rattle.machine.specs.Runs.{call}
 use Rattle.machine.specs.Step.{question}
 use Rattle.machine.specs.declared.helpers.Helper.{Helper}
 use Rattle.cells.specs.declared.logs.Answer.{Answer}
-use Rattle.cells.specs.Logs.{word_of, cell_of, kind_at, answer_of, draws_ticket, call_of, calls_of, tickets, tickets_of, is_ticket, asks_ticket, IsBehind, IsUnder, is_raise, IsCallUnder, asks_raise, IsGreatest, AreNumbersBelow}
-use Rattle.cells.specs.Counting.{IsCounted, IsPeak, IsAnswered}
+use Rattle.cells.specs.Logs.{cell_word_of, cell_of, kind_of_cell, answer_of_parts, draws_ticket, call_answered_by, calls_of, ticket_numbers, tickets_of, is_ticket, asks_ticket, IsBelowCount, IsUnder, is_raise, IsCallUnder, asks_raise, IsGreatest, AreNumbersBelow}
+use Rattle.cells.specs.Counting.{IsTicketCounted, IsPeak, IsWordAnswered}
 use Rattle.cells.specs.Seats.{CellSeatValue, CellsValue, IsOf, AreOf, IsSeatOf, calls, calls_back, cells_with}
 
 -- the word of a cell, by only the sizes of the maps
@@ -25,7 +25,7 @@ abbrev word_in : (sizes : List ℕ) → (map key : ℕ) → ℕ
 word_in sizes map key = sum (take map sizes) + key
 
 -- the word of a cell is one of the words
-pub word_inside : (maps : Maps) (m key : ℕ) → IsInside maps m key → word_of maps m key < sum maps.cells
+pub word_inside : (maps : Maps) (m key : ℕ) → IsInside maps m key → cell_word_of maps m key < sum maps.cells
 word_inside maps m key h = let below = h.key_exists in let more = sum_by_more_le (λ (x : ℕ). x) maps.cells m 0 h.map_exists in omega arith
 
 -- the words of the first map, and those of the others
@@ -66,50 +66,50 @@ word_of_cell (size ∷ sizes) word below =
     word_by size sizes word (nat_lt word size) refl (λ over. word_of_cell sizes (word - size) (omega (arith, sum_by-cons (λ (x : ℕ). x) size sizes)))
 
 -- the cell of the word of a cell of these maps
-pub cell_there : (maps : Maps) (m key : ℕ) → IsInside maps m key → cell_of maps.cells (word_of maps m key) ≡ (m, key)
+pub cell_there : (maps : Maps) (m key : ℕ) → IsInside maps m key → cell_of maps.cells (cell_word_of maps m key) ≡ (m, key)
 cell_there maps m key h = cell_of_word maps.cells m key h.map_exists h.key_exists
 
 -- the word of a cell has the kind of its map
-pub kind_there : (maps : Maps) (m key : ℕ) → IsInside maps m key → kind_at maps (word_of maps m key) ≡ kind_of_map maps m
+pub kind_there : (maps : Maps) (m key : ℕ) → IsInside maps m key → kind_of_cell maps (cell_word_of maps m key) ≡ kind_of_map maps m
 kind_there maps m key h = ap (λ (c : ℕ × ℕ). kind_of_map maps c.0) (cell_there maps m key h)
 
 -- the answers with one more, whatever the kind of its word
 pub record HasAnswered (kind : MapKind) (helper : Helper) (word argument : ℕ) (before : List Answer) (answer : ℕ) (after : List Answer) : Type 0 where
   pub exact : ℕ
   pub wraps : kind ≡ Counter → answer ≡ exact % 2 ^ 64
-  pub answers : after ≡ before ++ answer_of helper word argument exact answer ∷ []
+  pub answers : after ≡ before ++ answer_of_parts helper word argument exact answer ∷ []
 
 pub has_answered : (kind : MapKind) (helper : Helper) (word argument : ℕ) (before : List Answer) (answer : ℕ) (after : List Answer)
-    → IsAnswered kind helper word argument before answer after → HasAnswered kind helper word argument before answer after
+    → IsWordAnswered kind helper word argument before answer after → HasAnswered kind helper word argument before answer after
 has_answered Counter helper word argument before answer after d = record { exact = d.exact; wraps = λ is. d.wraps; answers = d.answers }
 has_answered Peak helper word argument before answer after d = record { exact = answer; wraps = λ is. absurd cc; answers = d.answers }
 
 -- the calls with one answer more
 pub asked : (maps : Maps) (m key : ℕ) (kind : MapKind) (helper : Helper) (argument answer : ℕ) (before after : List Answer) → IsInside maps m key
-    → HasAnswered kind helper (word_of maps m key) argument before answer after
+    → HasAnswered kind helper (cell_word_of maps m key) argument before answer after
     → calls_of maps after ≡ calls_of maps before ++ call (question helper m key argument) answer ∷ []
 asked maps m key kind helper argument answer before after h d =
-    ap (calls_of maps) d.answers ∙ map-append (call_of maps) before (answer_of helper (word_of maps m key) argument d.exact answer ∷ [])
+    ap (calls_of maps) d.answers ∙ map-append (call_answered_by maps) before (answer_of_parts helper (cell_word_of maps m key) argument d.exact answer ∷ [])
     ∙ ap (λ (c : ℕ × ℕ). calls_of maps before ++ call (question helper c.0 c.1 argument) answer ∷ []) (cell_there maps m key h)
 
 -- an answer is of the word of a cell if its call asked the cell
-answers_there : (maps : Maps) (m key : ℕ) (d : Answer) → d.word < sum maps.cells → (cell_of maps.cells d.word).0 ≡ m → (cell_of maps.cells d.word).1 ≡ key → d.word ≡ word_of maps m key
+answers_there : (maps : Maps) (m key : ℕ) (d : Answer) → d.word < sum maps.cells → (cell_of maps.cells d.word).0 ≡ m → (cell_of maps.cells d.word).1 ≡ key → d.word ≡ cell_word_of maps m key
 answers_there maps m key d below first second =
     let c = cell_of maps.cells d.word in
-    sym (word_of_cell maps.cells d.word below) ∙ ap (λ (k : ℕ). word_of maps k c.1) first ∙ ap (word_of maps m) second
+    sym (word_of_cell maps.cells d.word below) ∙ ap (λ (k : ℕ). cell_word_of maps k c.1) first ∙ ap (cell_word_of maps m) second
 
 cell_is : (maps : Maps) (m key : ℕ) → IsInside maps m key → (d : Answer) → d.word < sum maps.cells
-    → ((cell_of maps.cells d.word).0 == m) && ((cell_of maps.cells d.word).1 == key) ≡ (d.word == word_of maps m key)
+    → ((cell_of maps.cells d.word).0 == m) && ((cell_of maps.cells d.word).1 == key) ≡ (d.word == cell_word_of maps m key)
 cell_is maps m key h d below =
     let c = cell_of maps.cells d.word in
-    let word = word_of maps m key in
+    let word = cell_word_of maps m key in
     let both : Decides ((c.0 == m) && (c.1 == key)) ((c.0 ≡ m) × (c.1 ≡ key)) = Decides-and (c.0 == m) (c.1 == key) (Decides-eqb c.0 m) (Decides-eqb c.1 key) in
     let there : (c.0 ≡ m) × (c.1 ≡ key) → d.word ≡ word = λ e. answers_there maps m key d below e.0 e.1 in
     let back : d.word ≡ word → (c.0 ≡ m) × (c.1 ≡ key) = λ e. let same : c ≡ (m, key) = ap (cell_of maps.cells) e ∙ cell_there maps m key h in (ap (λ (x : ℕ × ℕ). x.0) same, ap (λ (x : ℕ × ℕ). x.1) same) in
     same_from_decides _ _ (Decides-like ((c.0 == m) && (c.1 == key)) there back both) (Decides-eqb d.word word)
 
 -- an answer is a ticket of the word if its call drew a ticket of the cell
-asks_is : (maps : Maps) (m key : ℕ) → IsInside maps m key → (d : Answer) → d.word < sum maps.cells → asks_ticket m key (call_of maps d) ≡ is_ticket (word_of maps m key) d
+asks_is : (maps : Maps) (m key : ℕ) → IsInside maps m key → (d : Answer) → d.word < sum maps.cells → asks_ticket m key (call_answered_by maps d) ≡ is_ticket (cell_word_of maps m key) d
 asks_is maps m key h d below = ap (λ (b : Bool). draws_ticket d.helper && b) (cell_is maps m key h d below)
 
 abbrev answers_in : List Call → List ℕ
@@ -129,73 +129,73 @@ as_many true c d cs ds rest = ap suc rest
 as_many false c d cs ds rest = rest
 
 -- a ticket whose number fits is answered as it is
-fits : (word n : ℕ) (d : Answer) → n < 2 ^ 64 → IsBehind word n d → (d.word ≡ word → d.told ≡ d.exact % 2 ^ 64) → is_ticket word d ≡ true → d.told ≡ d.exact
-fits word n d small behind wraps is =
+fits : (word n : ℕ) (d : Answer) → n < 2 ^ 64 → IsBelowCount word n d → (d.word ≡ word → d.reported ≡ d.exact % 2 ^ 64) → is_ticket word d ≡ true → d.reported ≡ d.exact
+fits word n d small following wraps is =
     let helps : draws_ticket d.helper ≡ true = grind arith in
     let here : d.word ≡ word = eqb-true d.word word (grind arith) in
-    let least : d.exact + cond (draws_ticket d.helper) 1 0 ≤ n = behind here in
+    let least : d.exact + cond (draws_ticket d.helper) 1 0 ≤ n = following here in
     let more : d.exact + 1 ≤ n = subst (λ (b : Bool). d.exact + cond b 1 0 ≤ n) helps least in
     wraps here ∙ mod-eq_of_lt (omega arith)
 
 -- if the numbers fit, the answers of the calls are the numbers of the tickets
-same_tickets : (maps : Maps) (m key n : ℕ) → IsInside maps m key → kind_at maps (word_of maps m key) ≡ Counter → n < 2 ^ 64 → (ds : List Answer) → AreOf maps ds → All (IsBehind (word_of maps m key) n) ds
-    → tickets_of m key (calls_of maps ds) ≡ tickets (word_of maps m key) ds
-same_tickets maps m key n h kind small [] are behind = refl
-same_tickets maps m key n h kind small (d ∷ ds) are behind =
-    let word = word_of maps m key in
-    let c : Call = call_of maps d in
+same_tickets : (maps : Maps) (m key n : ℕ) → IsInside maps m key → kind_of_cell maps (cell_word_of maps m key) ≡ Counter → n < 2 ^ 64 → (ds : List Answer) → AreOf maps ds → All (IsBelowCount (cell_word_of maps m key) n) ds
+    → tickets_of m key (calls_of maps ds) ≡ ticket_numbers (cell_word_of maps m key) ds
+same_tickets maps m key n h kind small [] are following = refl
+same_tickets maps m key n h kind small (d ∷ ds) are following =
+    let word = cell_word_of maps m key in
+    let c : Call = call_answered_by maps d in
     let of : IsOf maps d = All-head (IsOf maps) d ds are in
-    let rest = same_tickets maps m key n h kind small ds (All-tail (IsOf maps) d ds are) (All-tail (IsBehind word n) d ds behind) in
+    let rest = same_tickets maps m key n h kind small ds (All-tail (IsOf maps) d ds are) (All-tail (IsBelowCount word n) d ds following) in
     let cs = filter (asks_ticket m key) (calls_of maps ds) in
     ap (λ (b : Bool). answers_in (cond b (c ∷ cs) cs)) (asks_is maps m key h d of.0)
-    ∙ picks (is_ticket word d) c d cs (filter (is_ticket word) ds) (fits word n d small (All-head (IsBehind word n) d ds behind) (λ here. of.1 (ap (kind_at maps) here ∙ kind))) rest
+    ∙ picks (is_ticket word d) c d cs (filter (is_ticket word) ds) (fits word n d small (All-head (IsBelowCount word n) d ds following) (λ here. of.1 (ap (kind_of_cell maps) here ∙ kind))) rest
 
 -- the calls drew as many tickets as there are
 same_length : (maps : Maps) (m key : ℕ) → IsInside maps m key → (ds : List Answer) → AreOf maps ds
-    → length (tickets_of m key (calls_of maps ds)) ≡ length (tickets (word_of maps m key) ds)
+    → length (tickets_of m key (calls_of maps ds)) ≡ length (ticket_numbers (cell_word_of maps m key) ds)
 same_length maps m key h [] are = refl
 same_length maps m key h (d ∷ ds) are =
-    let word = word_of maps m key in
-    let c : Call = call_of maps d in
+    let word = cell_word_of maps m key in
+    let c : Call = call_answered_by maps d in
     let of : IsOf maps d = All-head (IsOf maps) d ds are in
     let cs = filter (asks_ticket m key) (calls_of maps ds) in
     ap (λ (b : Bool). length (answers_in (cond b (c ∷ cs) cs))) (asks_is maps m key h d of.0)
     ∙ as_many (is_ticket word d) c d cs (filter (is_ticket word) ds) (same_length maps m key h ds (All-tail (IsOf maps) d ds are))
 
 -- whoever has all answers of a counter map's cell has the numbers below the word, each once
-pub told : (maps : Maps) (m key value : ℕ) (ds : List Answer) → IsInside maps m key → kind_of_map maps m ≡ Counter → AreOf maps ds → IsCounted (word_of maps m key) value ds
+pub reported : (maps : Maps) (m key value : ℕ) (ds : List Answer) → IsInside maps m key → kind_of_map maps m ≡ Counter → AreOf maps ds → IsTicketCounted (cell_word_of maps m key) value ds
     → length (tickets_of m key (calls_of maps ds)) < 2 ^ 64 → AreNumbersBelow value (tickets_of m key (calls_of maps ds))
-told maps m key value ds h kind are counted small =
-    let word = word_of maps m key in
-    let n = length (tickets word ds) in
+reported maps m key value ds h kind are counted small =
+    let word = cell_word_of maps m key in
+    let n = length (ticket_numbers word ds) in
     let few : n < 2 ^ 64 = (let e = same_length maps m key h ds are in omega arith) in
-    let same : tickets_of m key (calls_of maps ds) ≡ tickets word ds = same_tickets maps m key n h (kind_there maps m key h ∙ kind) few ds are counted.behind in
+    let same : tickets_of m key (calls_of maps ds) ≡ ticket_numbers word ds = same_tickets maps m key n h (kind_there maps m key h ∙ kind) few ds are counted.following in
     let all : value ≡ n = counted.counts ∙ mod-eq_of_lt few in
-    subst (λ (ns : List ℕ). AreNumbersBelow value ns) (sym same) (subst (λ (k : ℕ). AreNumbersBelow k (tickets word ds)) (sym all) counted.each_once)
+    subst (λ (ns : List ℕ). AreNumbersBelow value ns) (sym same) (subst (λ (k : ℕ). AreNumbersBelow k (ticket_numbers word ds)) (sym all) counted.each_once)
 
 -- the calls of answers that are under a number are under it
-calls_under : (maps : Maps) (m key value : ℕ) (ds : List Answer) → AreOf maps ds → All (IsUnder (word_of maps m key) value) ds → All (IsCallUnder m key value) (calls_of maps ds)
+calls_under : (maps : Maps) (m key value : ℕ) (ds : List Answer) → AreOf maps ds → All (IsUnder (cell_word_of maps m key) value) ds → All (IsCallUnder m key value) (calls_of maps ds)
 calls_under maps m key value [] are under = All-nil (IsCallUnder m key value)
 calls_under maps m key value (d ∷ ds) are under =
     let of : IsOf maps d = All-head (IsOf maps) d ds are in
-    let first : IsUnder (word_of maps m key) value d = All-head (IsUnder (word_of maps m key) value) d ds under in
-    All-cons (IsCallUnder m key value) (call_of maps d) (calls_of maps ds) (λ e f. first (answers_there maps m key d of.0 e f))
-    (calls_under maps m key value ds (All-tail (IsOf maps) d ds are) (All-tail (IsUnder (word_of maps m key) value) d ds under))
+    let first : IsUnder (cell_word_of maps m key) value d = All-head (IsUnder (cell_word_of maps m key) value) d ds under in
+    All-cons (IsCallUnder m key value) (call_answered_by maps d) (calls_of maps ds) (λ e f. first (answers_there maps m key d of.0 e f))
+    (calls_under maps m key value ds (All-tail (IsOf maps) d ds are) (All-tail (IsUnder (cell_word_of maps m key) value) d ds under))
 
 -- the calls raised a cell to a number as often as the answers did
 raises_alike : (maps : Maps) (m key value : ℕ) → IsInside maps m key → (ds : List Answer) → AreOf maps ds
-    → count_by (asks_raise m key value) (calls_of maps ds) ≡ count_by (is_raise (word_of maps m key) value) ds
+    → count_by (asks_raise m key value) (calls_of maps ds) ≡ count_by (is_raise (cell_word_of maps m key) value) ds
 raises_alike maps m key value h [] are = refl
 raises_alike maps m key value h (d ∷ ds) are =
-    let word = word_of maps m key in
+    let word = cell_word_of maps m key in
     let of : IsOf maps d = All-head (IsOf maps) d ds are in
     let rest = raises_alike maps m key value h ds (All-tail (IsOf maps) d ds are) in
     let first = ap {B = ℕ} (λ (b : Bool). cond (b && (d.argument == value)) 1 0) (cell_is maps m key h d of.0) in
-    omega (arith, first, rest, sum_by-cons (λ (c : Call). cond (asks_raise m key value c) 1 0) (call_of maps d) (calls_of maps ds), sum_by-cons (λ (x : Answer). cond (is_raise word value x) 1 0) d ds)
+    omega (arith, first, rest, sum_by-cons (λ (c : Call). cond (asks_raise m key value c) 1 0) (call_answered_by maps d) (calls_of maps ds), sum_by-cons (λ (x : Answer). cond (is_raise word value x) 1 0) d ds)
 
 -- whoever has all answers of a peak map's cell has the greatest argument of its calls
-pub told_peak : (maps : Maps) (m key value : ℕ) (ds : List Answer) → IsInside maps m key → AreOf maps ds → IsPeak (word_of maps m key) value ds → IsGreatest m key value (calls_of maps ds)
-told_peak maps m key value ds h are peak = record {
+pub answered_peak : (maps : Maps) (m key value : ℕ) (ds : List Answer) → IsInside maps m key → AreOf maps ds → IsPeak (cell_word_of maps m key) value ds → IsGreatest m key value (calls_of maps ds)
+answered_peak maps m key value ds h are peak = record {
   under = calls_under maps m key value ds are peak.under;
   reached = λ p. let r = peak.reached p in let e = raises_alike maps m key value h ds are in omega arith;
 }

@@ -8,7 +8,7 @@ use Rattle.std.proofs.lemmas.Bool.Decides.{nat_tests}
 use Rattle.std.proofs.Math.Bool.{false≢true}
 use Rattle.machine.specs.declared.helpers.Helper.TheVariants as helpers
 use Rattle.cells.specs.declared.logs.Answer.{Answer}
-use Rattle.cells.specs.Logs.{answer_of, IsUnder, is_raise}
+use Rattle.cells.specs.Logs.{answer_of_parts, IsUnder, is_raise}
 use Rattle.cells.specs.Counting.{IsPeak}
 use Rattle.cells.proofs.Counted.{AreAlike}
 
@@ -41,22 +41,22 @@ reaches word k d here there = both (d.word == word) (d.argument == k) (eq-eqb d.
     both false b e f = absurd (false≢true e)
 
 -- an answer of `count`
-pub peak_counted : (word found : ℕ) (ds : List Answer) → IsPeak word found ds → IsPeak word found (ds ++ answer_of helpers.Count word 0 found found ∷ [])
+pub peak_counted : (word found : ℕ) (ds : List Answer) → IsPeak word found ds → IsPeak word found (ds ++ answer_of_parts helpers.Count word 0 found found ∷ [])
 peak_counted word found ds h = record {
-  under = All-push (IsUnder word found) ds (answer_of helpers.Count word 0 found found) h.under (λ here. (omega arith, omega arith));
-  reached = λ p. let r = h.reached p in omega (arith, r, sum_by_push (λ (x : Answer). cond (is_raise word found x) 1 0) ds (answer_of helpers.Count word 0 found found));
+  under = All-push (IsUnder word found) ds (answer_of_parts helpers.Count word 0 found found) h.under (λ here. (omega arith, omega arith));
+  reached = λ p. let r = h.reached p in omega (arith, r, sum_by_push (λ (x : Answer). cond (is_raise word found x) 1 0) ds (answer_of_parts helpers.Count word 0 found found));
 }
 
 -- an answer of `peak`, which raises the word to the greater of what was found and the argument
 pub peak_raised : (word found k : ℕ) (ds : List Answer) → IsPeak word found ds
-    → IsPeak word (max found k) (ds ++ answer_of helpers.Peak word k (max found k) (max found k) ∷ [])
+    → IsPeak word (max found k) (ds ++ answer_of_parts helpers.Peak word k (max found k) (max found k) ∷ [])
 peak_raised word found k ds h = record {
   under = All-push (IsUnder word (max found k)) ds d (under_greater word found k ds h.under) (λ here. (omega arith, omega arith));
   reached = by_test (nat_le k found) refl;
 }
   where
     d : Answer
-    d = answer_of helpers.Peak word k (max found k) (max found k)
+    d = answer_of_parts helpers.Peak word k (max found k) (max found k)
 
     by_test : (b : Bool) → nat_le k found ≡ b → 0 < max found k → 0 < count_by (is_raise word (max found k)) (ds ++ d ∷ [])
     by_test true e p =

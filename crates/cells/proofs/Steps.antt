@@ -17,8 +17,8 @@ use Rattle.cells.specs.declared.logs.SeatLog.{SeatLog}
 use Rattle.machine.specs.Sizes.{Maps}
 use Rattle.machine.specs.declared.kinds.MapKind.{MapKind}
 use Rattle.machine.specs.declared.kinds.MapKind.TheVariants.{Counter, Peak}
-use Rattle.cells.specs.Logs.{answer_of, tickets, kind_at, IsBehind, IsUnder}
-use Rattle.cells.specs.Counting.{seat_log, spent_log, all_answers, IsCounted, IsPeak, IsWordOf, IsTable, IsAnswered, LogsAnswer, Answers, Raises, Tells, TellsPeak}
+use Rattle.cells.specs.Logs.{answer_of_parts, ticket_numbers, kind_of_cell, IsBelowCount, IsUnder}
+use Rattle.cells.specs.Counting.{seat_log, spent_log, all_answers, IsTicketCounted, IsPeak, IsWordOf, IsCellTable, IsWordAnswered, LogsAnswer, AnswersFound, RaisesWord, ReportsTickets, ReportsPeak}
 use Rattle.cells.proofs.Lists.{sum_set, sum_answers_set, answers_snoc, no_answers, all_front, all_back, of_log, after_set}
 use Rattle.cells.proofs.Counted.{AreAlike, counted_alike, counted_other, counted_count, counted_ticket}
 use Rattle.cells.proofs.Raised.{peak_alike, peak_other, peak_counted, peak_raised, under_greater}
@@ -48,7 +48,7 @@ word_at_first : (kind : MapKind) (word value : ℕ) → value ≡ 0 → IsWordOf
 word_at_first Counter word value zero = record {
   counts = zero;
   each_once = λ number. sym (ap (λ b. cond b 1 0) (le-ltb number 0 (omega arith)));
-  behind = All-nil _;
+  following = All-nil _;
 }
 word_at_first Peak word value zero = record { under = All-nil _; reached = λ p. absurd (omega arith) }
 
@@ -69,9 +69,9 @@ words_after kind s word value d inside here new cells k below =
     (eqb_tells k word)
 
 -- the table with one answer more
-answers_more : (maps : Maps) (s : Table) (seat : ℕ) (v : SeatLog) (word value : ℕ) (d : Answer) → IsTable maps s → get_elem? s.views seat ≡ some v → 0 < v.parts
-    → word < length s.words → d.word ≡ word → IsWordOf (kind_at maps word) word value (all_answers s.views ++ d ∷ [])
-    → IsTable maps (table (set s.words word value) s (set s.views seat (seat_log v.maps v.parts (v.answers ++ d ∷ []))))
+answers_more : (maps : Maps) (s : Table) (seat : ℕ) (v : SeatLog) (word value : ℕ) (d : Answer) → IsCellTable maps s → get_elem? s.views seat ≡ some v → 0 < v.parts
+    → word < length s.words → d.word ≡ word → IsWordOf (kind_of_cell maps word) word value (all_answers s.views ++ d ∷ [])
+    → IsCellTable maps (table (set s.words word value) s (set s.views seat (seat_log v.maps v.parts (v.answers ++ d ∷ []))))
 answers_more maps s seat v word value d h at part inside here new =
     let w : SeatLog = seat_log v.maps v.parts (v.answers ++ d ∷ []) in
     let ds = all_answers s.views in record {
@@ -81,31 +81,31 @@ answers_more maps s seat v word value d h at part inside here new =
           (λ (t : (j ≡ seat) × (w ≡ u)). let same : v.parts ≡ u.parts = ap (λ (x : SeatLog). x.parts) t.1 in absurd (omega arith))
           (λ (t : (j ≢ seat) × (get_elem? s.views j ≡ some u)). h.idle j u t.1 without)
           (at_set s.views seat j w u e);
-      cells = λ k below. word_alike (kind_at maps k) k (slice_index (set s.words word value) k) (ds ++ d ∷ []) (all_answers (set s.views seat w))
+      cells = λ k below. word_alike (kind_of_cell maps k) k (slice_index (set s.words word value) k) (ds ++ d ∷ []) (all_answers (set s.views seat w))
           (λ f. let e = sum_answers_set f s.views seat v w at in omega (arith, sum_by-append f v.answers (d ∷ []), sum_by-append f ds (d ∷ [])))
           (λ P all. let old = all_front P ds (d ∷ []) all in
           after_set P s.views seat w (All-append P v.answers (d ∷ []) (of_log P s.views seat v at old) (all_back P ds (d ∷ []) all)) old)
-          (words_after (kind_at maps) s word value d inside here new h.cells k below);
+          (words_after (kind_of_cell maps) s word value d inside here new h.cells k below);
     }
 
 -- One answer more of a word of that kind. The word goes on as the rule says, and so do the answers of whoever asked.
 -- What is so of all answers is so of these.
 record Goes (kind : MapKind) (helper : Helper) (word argument answer after : ℕ) (ds : List Answer) : Type 1 where
   exact : ℕ
-  word_goes : IsWordOf kind word after (ds ++ answer_of helper word argument exact answer ∷ [])
+  word_goes : IsWordOf kind word after (ds ++ answer_of_parts helper word argument exact answer ∷ [])
   answers_go : (mine : List Answer) → ((P : Answer → Type 0) → All P ds → All P mine)
-      → IsAnswered kind helper word argument mine answer (mine ++ answer_of helper word argument exact answer ∷ [])
+      → IsWordAnswered kind helper word argument mine answer (mine ++ answer_of_parts helper word argument exact answer ∷ [])
 
 -- a step that answers a call of a word, if each word of its kind goes on so
 goes_on : (more answer : ℕ → ℕ) (helper : Helper) (argument first slots seat word : ℕ) (me : Me (Unit {0}) SeatLog) → 0 < me.0.parts → word < sum me.0.maps.cells
-    → ((found : ℕ) (ds : List Answer) → IsWordOf (kind_at me.0.maps word) word found ds → Goes (kind_at me.0.maps word) helper word argument (answer found) (more found) ds)
-    → Allows (IsTable me.0.maps) slots seat me word more (λ found after. LogsAnswer helper argument (answer found) (step slots word first 0 none) me after)
+    → ((found : ℕ) (ds : List Answer) → IsWordOf (kind_of_cell me.0.maps word) word found ds → Goes (kind_of_cell me.0.maps word) helper word argument (answer found) (more found) ds)
+    → Allows (IsCellTable me.0.maps) slots seat me word more (λ found after. LogsAnswer helper argument (answer found) (step slots word first 0 none) me after)
 goes_on more answer helper argument first slots seat word me part below goes s h len at fits =
     let v : SeatLog = me.0 in
     let found = slice_index s.words word in
     let inside : word < length s.words = (let long = h.words in omega arith) in
     let g = goes found (all_answers s.views) (h.cells word inside) in
-    let d : Answer = answer_of helper word argument g.exact (answer found) in (
+    let d : Answer = answer_of_parts helper word argument g.exact (answer found) in (
       seat_log v.maps v.parts (v.answers ++ d ∷ []),
       keeps,
       tt,
@@ -116,10 +116,10 @@ goes_on more answer helper argument first slots seat word me part below goes s h
 -- `count` of a word
 count_goes : (kind : MapKind) (word found : ℕ) (ds : List Answer) → IsWordOf kind word found ds → Goes kind helpers.Count word 0 found found ds
 count_goes Counter word found ds h =
-    let n = length (tickets word ds) in record {
+    let n = length (ticket_numbers word ds) in record {
       exact = n;
       word_goes = counted_count word found found ds h;
-      answers_go = λ mine facts. record { exact = n; wraps = h.counts; rising = facts (IsBehind word n) h.behind; answers = refl };
+      answers_go = λ mine facts. record { exact = n; wraps = h.counts; rising = facts (IsBelowCount word n) h.following; answers = refl };
     }
 count_goes Peak word found ds h = record {
   exact = found;
@@ -130,10 +130,10 @@ count_goes Peak word found ds h = record {
 -- `ticket` of a word of a counter map
 ticket_goes : (kind : MapKind) (word found : ℕ) (ds : List Answer) → kind ≡ Counter → IsWordOf kind word found ds → Goes kind helpers.Ticket word 0 found ((found + 1) % 2 ^ 64) ds
 ticket_goes Counter word found ds is h =
-    let n = length (tickets word ds) in record {
+    let n = length (ticket_numbers word ds) in record {
       exact = n;
       word_goes = counted_ticket word found found ds h;
-      answers_go = λ mine facts. record { exact = n; wraps = h.counts; rising = facts (IsBehind word n) h.behind; answers = refl };
+      answers_go = λ mine facts. record { exact = n; wraps = h.counts; rising = facts (IsBelowCount word n) h.following; answers = refl };
     }
 ticket_goes Peak word found ds is h = absurd cc
 
@@ -148,22 +148,22 @@ peak_goes Peak word argument found ds is h = record {
 
 -- an answer of `count`
 pub counts : (slots seat word : ℕ) (me : Me (Unit {0}) SeatLog) → 0 < me.0.parts → word < sum me.0.maps.cells
-    → Allows (IsTable me.0.maps) slots seat me word (λ n. n) (Answers helpers.Count (step slots word 0 0 none) me)
+    → Allows (IsCellTable me.0.maps) slots seat me word (λ n. n) (AnswersFound helpers.Count (step slots word 0 0 none) me)
 counts slots seat word me part below =
-    goes_on (λ n. n) (λ n. n) helpers.Count 0 0 slots seat word me part below (λ found ds h. count_goes (kind_at me.0.maps word) word found ds h)
+    goes_on (λ n. n) (λ n. n) helpers.Count 0 0 slots seat word me part below (λ found ds h. count_goes (kind_of_cell me.0.maps word) word found ds h)
 
 -- an answer of `ticket`
-pub draws_one : (slots seat word : ℕ) (me : Me (Unit {0}) SeatLog) → kind_at me.0.maps word ≡ Counter → 0 < me.0.parts → word < sum me.0.maps.cells
-    → Allows (IsTable me.0.maps) slots seat me word (λ n. (n + 1) % 2 ^ 64) (Answers helpers.Ticket (step slots word 1 0 none) me)
+pub draws_one : (slots seat word : ℕ) (me : Me (Unit {0}) SeatLog) → kind_of_cell me.0.maps word ≡ Counter → 0 < me.0.parts → word < sum me.0.maps.cells
+    → Allows (IsCellTable me.0.maps) slots seat me word (λ n. (n + 1) % 2 ^ 64) (AnswersFound helpers.Ticket (step slots word 1 0 none) me)
 draws_one slots seat word me kind part below =
-    goes_on (λ n. (n + 1) % 2 ^ 64) (λ n. n) helpers.Ticket 0 1 slots seat word me part below (λ found ds h. ticket_goes (kind_at me.0.maps word) word found ds kind h)
+    goes_on (λ n. (n + 1) % 2 ^ 64) (λ n. n) helpers.Ticket 0 1 slots seat word me part below (λ found ds h. ticket_goes (kind_of_cell me.0.maps word) word found ds kind h)
 
 -- an answer of `peak`
-pub raises : (slots seat word argument : ℕ) (me : Me (Unit {0}) SeatLog) → kind_at me.0.maps word ≡ Peak → 0 < me.0.parts → word < sum me.0.maps.cells
-    → Allows (IsTable me.0.maps) slots seat me word (λ n. max n argument) (Raises (step slots word argument 0 none) me)
+pub raises : (slots seat word argument : ℕ) (me : Me (Unit {0}) SeatLog) → kind_of_cell me.0.maps word ≡ Peak → 0 < me.0.parts → word < sum me.0.maps.cells
+    → Allows (IsCellTable me.0.maps) slots seat me word (λ n. max n argument) (RaisesWord (step slots word argument 0 none) me)
 raises slots seat word argument me kind part below =
     goes_on (λ n. max n argument) (λ n. max n argument) helpers.Peak argument argument slots seat word me part below
-    (λ found ds h. peak_goes (kind_at me.0.maps word) word argument found ds kind h)
+    (λ found ds h. peak_goes (kind_of_cell me.0.maps word) word argument found ds kind h)
 
 -- who has all parts has all answers
 whole : (logs : List SeatLog) (seat : ℕ) (v : SeatLog) → get_elem? logs seat ≡ some v → sum_by (λ (u : SeatLog). u.parts) logs ≡ 256
@@ -178,39 +178,39 @@ whole logs seat v at parts idle all f =
     let e = sum_answers_set f logs seat v zero_log at in omega arith
 
 -- a look at a word, which reports something that is so of all answers
-looks : (maps : Maps) (slots seat word : ℕ) (me : Me (Unit {0}) SeatLog) (told : ℕ → Me (Unit {0}) SeatLog → Type 0) → word < sum maps.cells
-    → ((s : Table) → IsTable maps s → get_elem? s.views seat ≡ some me.0 → IsWordOf (kind_at maps word) word (slice_index s.words word) (all_answers s.views) → told (slice_index s.words word) me)
-    → Allows (IsTable maps) slots seat me word (λ n. n) told
-looks maps slots seat word me told below tells s h len at fits =
+looks : (maps : Maps) (slots seat word : ℕ) (me : Me (Unit {0}) SeatLog) (reported : ℕ → Me (Unit {0}) SeatLog → Type 0) → word < sum maps.cells
+    → ((s : Table) → IsCellTable maps s → get_elem? s.views seat ≡ some me.0 → IsWordOf (kind_of_cell maps word) word (slice_index s.words word) (all_answers s.views) → reported (slice_index s.words word) me)
+    → Allows (IsCellTable maps) slots seat me word (λ n. n) reported
+looks maps slots seat word me reported below reports s h len at fits =
     let v : SeatLog = me.0 in
     let inside : word < length s.words = (let long = h.words in omega arith) in (
       v,
       keeps,
       tt,
-      subst (λ (ws : List ℕ). IsTable maps (table ws s (set s.views seat v))) (sym (set-get_or s.words word 0))
-          (subst (λ (vs : List SeatLog). IsTable maps (table s.words s vs)) (sym (set_again s.views seat v at)) h),
-      tells s h at (h.cells word inside),
+      subst (λ (ws : List ℕ). IsCellTable maps (table ws s (set s.views seat v))) (sym (set-get_or s.words word 0))
+          (subst (λ (vs : List SeatLog). IsCellTable maps (table s.words s vs)) (sym (set_again s.views seat v at)) h),
+      reports s h at (h.cells word inside),
     )
 
 -- a look at a word of a counter map
-pub tells : (maps : Maps) (slots seat word : ℕ) (me : Me (Unit {0}) SeatLog) → kind_at maps word ≡ Counter → word < sum maps.cells
-    → Allows (IsTable maps) slots seat me word (λ n. n) (Tells (step slots word 0 0 none) me)
-tells maps slots seat word me kind below =
-    looks maps slots seat word me (Tells (step slots word 0 0 none) me) below
+pub reports : (maps : Maps) (slots seat word : ℕ) (me : Me (Unit {0}) SeatLog) → kind_of_cell maps word ≡ Counter → word < sum maps.cells
+    → Allows (IsCellTable maps) slots seat me word (λ n. n) (ReportsTickets (step slots word 0 0 none) me)
+reports maps slots seat word me kind below =
+    looks maps slots seat word me (ReportsTickets (step slots word 0 0 none) me) below
     (λ s h at is.
     let v : SeatLog = me.0 in
     let ds = all_answers s.views in
     let found = slice_index s.words word in
-    let c : IsCounted word found ds = subst (λ (k : MapKind). IsWordOf k word found ds) kind is in record {
+    let c : IsTicketCounted word found ds = subst (λ (k : MapKind). IsWordOf k word found ds) kind is in record {
       same = refl;
       counted = λ all. counted_alike word found ds v.answers (whole s.views seat v at h.parts h.idle all) (λ P. of_log P s.views seat v at) c;
     })
 
 -- a look at a word of a peak map
-pub tells_peak : (maps : Maps) (slots seat word : ℕ) (me : Me (Unit {0}) SeatLog) → kind_at maps word ≡ Peak → word < sum maps.cells
-    → Allows (IsTable maps) slots seat me word (λ n. n) (TellsPeak (step slots word 0 0 none) me)
-tells_peak maps slots seat word me kind below =
-    looks maps slots seat word me (TellsPeak (step slots word 0 0 none) me) below
+pub reports_peak : (maps : Maps) (slots seat word : ℕ) (me : Me (Unit {0}) SeatLog) → kind_of_cell maps word ≡ Peak → word < sum maps.cells
+    → Allows (IsCellTable maps) slots seat me word (λ n. n) (ReportsPeak (step slots word 0 0 none) me)
+reports_peak maps slots seat word me kind below =
+    looks maps slots seat word me (ReportsPeak (step slots word 0 0 none) me) below
     (λ s h at is.
     let v : SeatLog = me.0 in
     let ds = all_answers s.views in
@@ -222,7 +222,7 @@ tells_peak maps slots seat word me kind below =
     })
 
 -- a new seat
-pub splits : (maps : Maps) (seat : ℕ) (v : SeatLog) → v.answers ≡ [] → 0 < v.parts → Splits (IsTable maps) seat v (seat_log v.maps (v.parts - 1) v.answers) (seat_log v.maps 1 [])
+pub splits : (maps : Maps) (seat : ℕ) (v : SeatLog) → v.answers ≡ [] → 0 < v.parts → Splits (IsCellTable maps) seat v (seat_log v.maps (v.parts - 1) v.answers) (seat_log v.maps 1 [])
 splits maps seat v clean part s h at =
     let left : SeatLog = seat_log v.maps (v.parts - 1) v.answers in
     let right : SeatLog = seat_log v.maps 1 [] in
@@ -237,14 +237,14 @@ splits maps seat v clean part s h at =
           (at_set s.views seat j left u b))
           (λ (is : right ≡ u). sym (ap (λ (x : SeatLog). x.answers) is))
           (at_snoc views right u j e);
-      cells = λ k below. word_alike (kind_at maps k) k (slice_index s.words k) (all_answers s.views) (all_answers (views ++ right ∷ []))
+      cells = λ k below. word_alike (kind_of_cell maps k) k (slice_index s.words k) (all_answers s.views) (all_answers (views ++ right ∷ []))
           (λ f. let e = sum_answers_set f s.views seat v left at in let q = ap (sum_by f) same in omega arith)
           (λ P all. subst (All P) (sym same) (after_set P s.views seat left (of_log P s.views seat v at all) all))
           (h.cells k below);
     }
 
 -- a seat comes back
-pub joins : (maps : Maps) (seat : ℕ) (v : SeatLog) (other : ℕ) (w : SeatLog) → Joins (IsTable maps) seat v other w (seat_log v.maps (v.parts + w.parts) (v.answers ++ w.answers)) spent_log
+pub joins : (maps : Maps) (seat : ℕ) (v : SeatLog) (other : ℕ) (w : SeatLog) → Joins (IsCellTable maps) seat v other w (seat_log v.maps (v.parts + w.parts) (v.answers ++ w.answers)) spent_log
 joins maps seat v other w s h at apart at' =
     let both : SeatLog = seat_log v.maps (v.parts + w.parts) (v.answers ++ w.answers) in
     let spent : SeatLog = spent_log in
@@ -264,17 +264,17 @@ joins maps seat v other w s h at apart at' =
           (λ (b : (j ≢ seat) × (get_elem? s.views j ≡ some u)). h.idle j u b.1 without)
           (at_set s.views seat j both u t.1))
           (at_set views other j spent u e);
-      cells = λ k below. word_alike (kind_at maps k) k (slice_index s.words k) (all_answers s.views) (all_answers (set views other spent))
+      cells = λ k below. word_alike (kind_of_cell maps k) k (slice_index s.words k) (all_answers s.views) (all_answers (set views other spent))
           (λ f. let e = sum_answers_set f s.views seat v both at in let e' = sum_answers_set f views other w spent at' in omega (arith, sum_by-append f v.answers w.answers))
           (λ P all. after_set P views other spent (All-nil P) (after_set P s.views seat both (All-append P v.answers w.answers (of_log P s.views seat v at all) (of_log P s.views other w was all)) all))
           (h.cells k below);
     }
 
 -- the words at the start
-pub opens : (maps : Maps) (words : List ℕ) → length words ≡ sum maps.cells + 1 → All (λ x. x ≡ 0) words → IsTable maps (opening words [] (seat_log maps 256 []))
+pub opens : (maps : Maps) (words : List ℕ) → length words ≡ sum maps.cells + 1 → All (λ x. x ≡ 0) words → IsCellTable maps (opening words [] (seat_log maps 256 []))
 opens maps words long zeros = record {
   words = long;
   parts = refl;
   idle = λ seat u e without. ⊎_elim (λ (t : get_elem? [] seat ≡ some u). absurd (some-ne-none u (sym t))) (λ (is : seat_log maps 256 [] ≡ u). sym (ap (λ (x : SeatLog). x.answers) is)) (at_snoc [] (seat_log maps 256 []) u seat e);
-  cells = λ k below. word_at_first (kind_at maps k) k (slice_index words k) (zeros k 0 below);
+  cells = λ k below. word_at_first (kind_of_cell maps k) k (slice_index words k) (zeros k 0 below);
 }

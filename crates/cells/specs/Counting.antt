@@ -11,7 +11,7 @@ use Rattle.machine.specs.declared.kinds.MapKind.{MapKind}
 use Rattle.machine.specs.declared.kinds.MapKind.TheVariants.{Counter, Peak}
 use Rattle.cells.specs.declared.logs.Answer.{Answer}
 use Rattle.cells.specs.declared.logs.SeatLog.{SeatLog}
-use Rattle.cells.specs.Logs.{answer_of, tickets, kind_at, is_raise, IsBehind, IsUnder, AreNumbersBelow}
+use Rattle.cells.specs.Logs.{answer_of_parts, ticket_numbers, kind_of_cell, is_raise, IsBelowCount, IsUnder, AreNumbersBelow}
 
 -- the log of these maps, parts and answers
 abbrev pub seat_log : Maps → ℕ → List Answer → SeatLog
@@ -28,10 +28,10 @@ all_answers (log ∷ logs) = log.answers ++ all_answers logs
 
 -- The tickets among the answers are numbered from 0, each number once. The word is how many there are, modulo 2^64. No
 -- answer knew of more.
-pub record IsCounted (word value : ℕ) (answers : List Answer) : Type 0 where
-  pub counts : value ≡ length (tickets word answers) % 2 ^ 64
-  pub each_once : AreNumbersBelow (length (tickets word answers)) (tickets word answers)
-  pub behind : All (IsBehind word (length (tickets word answers))) answers
+pub record IsTicketCounted (word value : ℕ) (answers : List Answer) : Type 0 where
+  pub counts : value ≡ length (ticket_numbers word answers) % 2 ^ 64
+  pub each_once : AreNumbersBelow (length (ticket_numbers word answers)) (ticket_numbers word answers)
+  pub following : All (IsBelowCount word (length (ticket_numbers word answers))) answers
 
 -- The word is the greatest argument of the answers of its cell, or 0 if there is none. No answer was more.
 pub record IsPeak (word value : ℕ) (answers : List Answer) : Type 0 where
@@ -40,18 +40,18 @@ pub record IsPeak (word value : ℕ) (answers : List Answer) : Type 0 where
 
 -- what a word is to the answers, by its kind
 abbrev pub IsWordOf : MapKind → (word value : ℕ) → List Answer → Type 0
-IsWordOf Counter word value answers = IsCounted word value answers
+IsWordOf Counter word value answers = IsTicketCounted word value answers
 IsWordOf Peak word value answers = IsPeak word value answers
 
 -- The rule. Each word of a counter map counts the tickets of its cell. Each word of a peak map is the peak of its cell.
 -- There is one word more than there are cells. The logs have 256 parts together, and a log without parts has no
 -- answers.
-pub record IsTable (maps : Maps) (table : State (Unit {0}) SeatLog) : Type 0 where
+pub record IsCellTable (maps : Maps) (table : State (Unit {0}) SeatLog) : Type 0 where
   pub words : length table.words ≡ sum maps.cells + 1
   pub parts : sum_by (λ log. log.parts) table.views ≡ 256
   pub idle : (seat : ℕ) (log : SeatLog) → get_elem? table.views seat ≡ some log → log.parts ≡ 0 → log.answers ≡ []
   pub cells : (word : ℕ) → word < length table.words
-      → IsWordOf (kind_at maps word) word (slice_index table.words word) (all_answers table.views)
+      → IsWordOf (kind_of_cell maps word) word (slice_index table.words word) (all_answers table.views)
 
 -- One answer more of a word of a counter map, which knew of all tickets of which those before it knew. How many tickets
 -- it knew of is some number here. After every seat came back, the rule of the words binds it.
@@ -60,8 +60,8 @@ pub record IsCountAnswered (helper : Helper) (word argument : ℕ) (before : Lis
   where
     pub exact : ℕ
     pub wraps : answer ≡ exact % 2 ^ 64
-    pub rising : All (IsBehind word exact) before
-    pub answers : after ≡ before ++ answer_of helper word argument exact answer ∷ []
+    pub rising : All (IsBelowCount word exact) before
+    pub answers : after ≡ before ++ answer_of_parts helper word argument exact answer ∷ []
 
 -- One answer more of a word of a peak map. It answers at least its argument, and at least what the answers before it
 -- raised the word to and answered.
@@ -70,43 +70,43 @@ pub record IsPeakAnswered (helper : Helper) (word argument : ℕ) (before : List
   where
     pub raised : argument ≤ answer
     pub rising : All (IsUnder word answer) before
-    pub answers : after ≡ before ++ answer_of helper word argument answer answer ∷ []
+    pub answers : after ≡ before ++ answer_of_parts helper word argument answer answer ∷ []
 
 -- one answer more of a word, by its kind
-abbrev pub IsAnswered : MapKind → (helper : Helper) (word argument : ℕ) → (before : List Answer) → (answer : ℕ)
+abbrev pub IsWordAnswered : MapKind → (helper : Helper) (word argument : ℕ) → (before : List Answer) → (answer : ℕ)
     → (after : List Answer)
     → Type 0
-IsAnswered Counter helper word argument before answer after = IsCountAnswered helper word argument before answer after
-IsAnswered Peak helper word argument before answer after = IsPeakAnswered helper word argument before answer after
+IsWordAnswered Counter helper word argument before answer after = IsCountAnswered helper word argument before answer after
+IsWordAnswered Peak helper word argument before answer after = IsPeakAnswered helper word argument before answer after
 
 -- a step that logs one answer more, with that argument
 pub record LogsAnswer (helper : Helper) (argument answer : ℕ) (s : Step (Unit {0}))
     (before after : Me (Unit {0}) SeatLog) : Type 0
   where
-    pub answered : IsAnswered (kind_at before.0.maps s.word) helper s.word argument before.0.answers answer
+    pub answered : IsWordAnswered (kind_of_cell before.0.maps s.word) helper s.word argument before.0.answers answer
         after.0.answers
     pub maps : after.0.maps ≡ before.0.maps
     pub parts : after.0.parts ≡ before.0.parts
     pub slots : after.1 ≡ before.1
 
 -- a step that answers what it found
-abbrev pub Answers : Helper → Step (Unit {0}) → Me (Unit {0}) SeatLog → (found : ℕ) → Me (Unit {0}) SeatLog
+abbrev pub AnswersFound : Helper → Step (Unit {0}) → Me (Unit {0}) SeatLog → (found : ℕ) → Me (Unit {0}) SeatLog
     → Type 0
-Answers helper s before found after = LogsAnswer helper 0 found s before after
+AnswersFound helper s before found after = LogsAnswer helper 0 found s before after
 
 -- a step that raises the word, and answers the greater of what it found and its argument
-abbrev pub Raises : Step (Unit {0}) → Me (Unit {0}) SeatLog → (found : ℕ) → Me (Unit {0}) SeatLog → Type 0
-Raises s before found after = LogsAnswer helpers.Peak s.first (max found s.first) s before after
+abbrev pub RaisesWord : Step (Unit {0}) → Me (Unit {0}) SeatLog → (found : ℕ) → Me (Unit {0}) SeatLog → Type 0
+RaisesWord s before found after = LogsAnswer helpers.Peak s.first (max found s.first) s before after
 
 -- a step that logs nothing, and reports to whoever has all parts how many tickets were drawn
-pub record Tells (s : Step (Unit {0})) (before : Me (Unit {0}) SeatLog) (found : ℕ) (after : Me (Unit {0}) SeatLog) :
+pub record ReportsTickets (s : Step (Unit {0})) (before : Me (Unit {0}) SeatLog) (found : ℕ) (after : Me (Unit {0}) SeatLog) :
     Type 0
   where
     pub same : after ≡ before
-    pub counted : before.0.parts ≡ 256 → IsCounted s.word found before.0.answers
+    pub counted : before.0.parts ≡ 256 → IsTicketCounted s.word found before.0.answers
 
 -- a step that logs nothing, and reports to whoever has all parts what the word was raised to
-pub record TellsPeak (s : Step (Unit {0})) (before : Me (Unit {0}) SeatLog) (found : ℕ) (after : Me (Unit {0}) SeatLog)
+pub record ReportsPeak (s : Step (Unit {0})) (before : Me (Unit {0}) SeatLog) (found : ℕ) (after : Me (Unit {0}) SeatLog)
     : Type
     0 where
   pub same : after ≡ before

@@ -11,8 +11,8 @@ use Rattle.machine.specs.Step.{question}
 use Rattle.cells.specs.declared.logs.Answer.{Answer}
 
 -- the word of a cell: the cells of the maps before its own come first
-abbrev pub word_of : Maps → (map key : ℕ) → ℕ
-word_of maps map key = sum (take map maps.cells) + key
+abbrev pub cell_word_of : Maps → (map key : ℕ) → ℕ
+cell_word_of maps map key = sum (take map maps.cells) + key
 
 -- the cell of a word: its map and its key
 abbrev pub cell_of : (cells : List ℕ) → (word : ℕ) → ℕ × ℕ
@@ -21,22 +21,22 @@ cell_of (size ∷ sizes) word =
     cond (nat_lt word size) (0, word) (suc (cell_of sizes (word - size)).0, (cell_of sizes (word - size)).1)
 
 -- the kind of a word: that of its cell's map
-abbrev pub kind_at : Maps → (word : ℕ) → MapKind
-kind_at maps word = kind_of_map maps (cell_of maps.cells word).0
+abbrev pub kind_of_cell : Maps → (word : ℕ) → MapKind
+kind_of_cell maps word = kind_of_map maps (cell_of maps.cells word).0
 
 -- the answer of these parts
-abbrev pub answer_of : Helper → (word argument exact told : ℕ) → Answer
-answer_of helper word argument exact told =
-    record { helper = helper; word = word; argument = argument; exact = exact; told = told }
+abbrev pub answer_of_parts : Helper → (word argument exact reported : ℕ) → Answer
+answer_of_parts helper word argument exact reported =
+    record { helper = helper; word = word; argument = argument; exact = exact; reported = reported }
 
 -- the call that an answer was given to
-abbrev pub call_of : Maps → Answer → Call
-call_of maps a =
-    call (question a.helper (cell_of maps.cells a.word).0 (cell_of maps.cells a.word).1 a.argument) a.told
+abbrev pub call_answered_by : Maps → Answer → Call
+call_answered_by maps a =
+    call (question a.helper (cell_of maps.cells a.word).0 (cell_of maps.cells a.word).1 a.argument) a.reported
 
 -- the calls that these answers were given to
 abbrev pub calls_of : Maps → List Answer → List Call
-calls_of maps answers = map (call_of maps) answers
+calls_of maps answers = map (call_answered_by maps) answers
 
 -- ---- cells of counter maps
 
@@ -51,16 +51,16 @@ abbrev pub tickets_after : Answer → ℕ
 tickets_after a = a.exact + cond (draws_ticket a.helper) 1 0
 
 -- an answer of that cell knew of no more tickets than that many
-abbrev pub IsBehind : (word drawn : ℕ) → Answer → Type 0
-IsBehind word drawn a = a.word ≡ word → tickets_after a ≤ drawn
+abbrev pub IsBelowCount : (word drawn : ℕ) → Answer → Type 0
+IsBelowCount word drawn a = a.word ≡ word → tickets_after a ≤ drawn
 
 -- whether it is a ticket of that cell
 abbrev pub is_ticket : (word : ℕ) → Answer → Bool
 is_ticket word a = draws_ticket a.helper && (a.word == word)
 
 -- the numbers of the tickets of a cell
-abbrev pub tickets : (word : ℕ) → List Answer → List ℕ
-tickets word answers = map (λ a. a.exact) (filter (is_ticket word) answers)
+abbrev pub ticket_numbers : (word : ℕ) → List Answer → List ℕ
+ticket_numbers word answers = map (λ a. a.exact) (filter (is_ticket word) answers)
 
 -- whether the call drew a ticket of that cell
 abbrev pub asks_ticket : (map key : ℕ) → Call → Bool
@@ -78,7 +78,7 @@ AreNumbersBelow n numbers = (number : ℕ) → count_by (λ k. k == number) numb
 
 -- an answer of that cell raised it to no more than that value, and was no more
 abbrev pub IsUnder : (word value : ℕ) → Answer → Type 0
-IsUnder word value a = a.word ≡ word → (a.argument ≤ value) × (a.told ≤ value)
+IsUnder word value a = a.word ≡ word → (a.argument ≤ value) × (a.reported ≤ value)
 
 -- whether it raised that cell to that number
 abbrev pub is_raise : (word value : ℕ) → Answer → Bool

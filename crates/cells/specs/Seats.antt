@@ -11,8 +11,8 @@ use Rattle.machine.specs.Runs.{call}
 use Rattle.machine.specs.Step.{question}
 use Rattle.cells.specs.declared.logs.Answer.{Answer}
 use Rattle.cells.specs.declared.logs.SeatLog.{SeatLog}
-use Rattle.cells.specs.Logs.{calls_of, tickets_of, word_of, kind_at, AreNumbersBelow, IsGreatest}
-use Rattle.cells.specs.Counting.{IsAnswered}
+use Rattle.cells.specs.Logs.{calls_of, tickets_of, cell_word_of, kind_of_cell, AreNumbersBelow, IsGreatest}
+use Rattle.cells.specs.Counting.{IsWordAnswered}
 
 -- a seat: the maps, the name of its table, and its answers
 pub record CellSeatValue : Type 0 where
@@ -42,8 +42,8 @@ pub record IsSeatOf (it : CellsValue) (s : CellSeatValue) : Type 0 where
   pub home : s.home ≡ it.home
 
 -- every seat came back
-abbrev pub IsWhole : CellsValue → Type 0
-IsWhole it = it.parts ≡ 256
+abbrev pub AreSeatsBack : CellsValue → Type 0
+AreSeatsBack it = it.parts ≡ 256
 
 -- the calls of a seat
 abbrev pub calls : CellSeatValue → List Call
@@ -56,7 +56,7 @@ pub record Asks (helper : Helper) (map key argument : ℕ) (before : CellSeatVal
     pub asked : calls after ≡ calls before ++ call (question helper map key argument) answer ∷ []
     pub sizes : after.sizes ≡ before.sizes
     pub home : after.home ≡ before.home
-    pub answered : IsAnswered (kind_of_map before.sizes map) helper (word_of before.sizes map key) argument
+    pub answered : IsWordAnswered (kind_of_map before.sizes map) helper (cell_word_of before.sizes map key) argument
         before.answers
         answer
         after.answers
@@ -72,7 +72,7 @@ calls_back it = calls_of it.sizes it.answers
 -- if fewer than 2^64 tickets of a cell came back, they are the numbers below n, each once
 abbrev pub AreNumbered : CellsValue → (map key n : ℕ) → Type 0
 AreNumbered it map key n =
-    let tickets = tickets_of map key (calls_back it) in length tickets < 2 ^ 64 → AreNumbersBelow n tickets
+    let ticket_numbers = tickets_of map key (calls_back it) in length ticket_numbers < 2 ^ 64 → AreNumbersBelow n ticket_numbers
 
 -- the number is the greatest argument of the calls that came back and asked a cell, or 0 if there is none
 abbrev pub IsHighest : CellsValue → (map key n : ℕ) → Type 0
@@ -80,14 +80,14 @@ IsHighest it map key n = IsGreatest map key n (calls_back it)
 
 -- The answer is of one of these cells. If the cell counts, the answer is its number modulo 2^64.
 abbrev pub IsOf : Maps → Answer → Type 0
-IsOf maps a = (a.word < sum maps.cells) × (kind_at maps a.word ≡ Counter → a.told ≡ a.exact % 2 ^ 64)
+IsOf maps a = (a.word < sum maps.cells) × (kind_of_cell maps a.word ≡ Counter → a.reported ≡ a.exact % 2 ^ 64)
 
 -- Each answer is of one of the cells. If the cell counts, the answer is its number modulo 2^64.
 abbrev pub AreOf : Maps → List Answer → Type 0
 AreOf maps answers = All (IsOf maps) answers
 
 -- The place is in a table of these cells, which has one word more. It has no slots, and its answers are of these cells.
-pub record IsPlaced (maps about : Maps) (table : TableId) (place : Seat (Unit {0}) SeatLog) : Type 0 where
+pub record IsSeatPlaced (maps about : Maps) (table : TableId) (place : Seat (Unit {0}) SeatLog) : Type 0 where
   pub limits : AreSizes maps
   pub key : about ≡ maps
   pub words : table.words ≡ sum maps.cells + 1

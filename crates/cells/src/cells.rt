@@ -5,9 +5,9 @@ ghost use Rattle.std.specs.Arc.{arc_value};
 ghost use Rattle.atomic_table.specs.Seated.{table_id_coded};
 ghost use Rattle.machine.specs.Sizes.{IsInside, kind_of_map};
 ghost use Rattle.machine.specs.declared.kinds.MapKind.TheVariants.{Counter, Peak};
-ghost use Rattle.cells.specs.Counting.{seat_log, IsCounted, IsPeak};
-ghost use Rattle.cells.specs.Logs.{word_of, IsUnder};
-ghost use Rattle.cells.specs.Seats.{seat, calls, calls_back, cells, cells_with, AreNumbered, IsHighest, IsPlaced, IsSeatOf, IsWhole};
+ghost use Rattle.cells.specs.Counting.{seat_log, IsTicketCounted, IsPeak};
+ghost use Rattle.cells.specs.Logs.{cell_word_of, IsUnder};
+ghost use Rattle.cells.specs.Seats.{seat, calls, calls_back, cells, cells_with, AreNumbered, IsHighest, IsSeatPlaced, IsSeatOf, AreSeatsBack};
 
 use crate::logs::SeatLog;
 use crate::rule::{Heights, Parts, Totals, Words};
@@ -33,13 +33,13 @@ pub struct Cells {
 impl Model for Cells {
     ghost use Rattle.std.specs.Arc.{arc_value};
     ghost use Rattle.atomic_table.specs.Seated.{table_id_coded};
-    ghost use Rattle.cells.specs.Seats.{CellsValue, cells, IsPlaced};
+    ghost use Rattle.cells.specs.Seats.{CellsValue, cells, IsSeatPlaced};
 
     ghost Value = { CellsValue };
 
     ghost view = { λ s. cells s.sizes (table_id_coded.code s.rest.table_id) s.rest.me.0.parts s.rest.me.0.answers };
 
-    ghost invariant = { λ s. IsPlaced s.sizes (arc_value s.words).shared.key (arc_value s.words).shared.table_id s.rest };
+    ghost invariant = { λ s. IsSeatPlaced s.sizes (arc_value s.words).shared.key (arc_value s.words).shared.table_id s.rest };
 }
 
 /// That many words of 0.
@@ -52,7 +52,7 @@ fn zeros() -> [u64; MOST]
 /// The words of these maps, each 0, and the one place in them, which has all parts.
 fn words(alloc: Global, sizes: &MapSizes) -> Result<(Words, Seat<(), SeatLog>), AllocError>
     ensures placed { IfOk result
-        (λ made. IsPlaced sizes.now made.0.shared.key made.0.shared.table_id made.1) }
+        (λ made. IsSeatPlaced sizes.now made.0.shared.key made.0.shared.table_id made.1) }
     ensures whole { IfOk result (λ made. made.1.me.0 ≡ seat_log sizes.now 256 []) }
 {
     let zeros = zeros();
@@ -67,7 +67,7 @@ fn new_seat(
     words: &Arc<Words>,
     rest: &mut Seat<(), SeatLog>,
 ) -> Result<CellSeat, AllocError>
-    requires placed { IsPlaced sizes.now (arc_value words.now).shared.key
+    requires placed { IsSeatPlaced sizes.now (arc_value words.now).shared.key
         (arc_value words.now).shared.table_id rest.old }
     requires fresh { rest.old.me.0.answers ≡ [] }
     requires part { 0 < rest.old.me.0.parts }
@@ -136,9 +136,9 @@ impl Cells {
         requires inside { IsInside self.old.sizes map key }
         requires kind { kind_of_map self.old.sizes map ≡ Counter }
         ensures same { self.new ≡ self.old }
-        ensures counted { IsWhole self.old
-            → IsCounted (word_of self.old.sizes map key) result self.old.answers }
-        ensures tickets { IsWhole self.old → AreNumbered self.old map key result }
+        ensures counted { AreSeatsBack self.old
+            → IsTicketCounted (cell_word_of self.old.sizes map key) result self.old.answers }
+        ensures ticket_numbers { AreSeatsBack self.old → AreNumbered self.old map key result }
     {
         let word = word_at(&self.sizes, map, key);
         self.words.shared.load::<Totals>(&mut self.rest, word)
@@ -153,10 +153,10 @@ impl Cells {
         requires inside { IsInside self.old.sizes map key }
         requires kind { kind_of_map self.old.sizes map ≡ Peak }
         ensures same { self.new ≡ self.old }
-        ensures above { All (IsUnder (word_of self.old.sizes map key) result) self.old.answers }
-        ensures peak { IsWhole self.old
-            → IsPeak (word_of self.old.sizes map key) result self.old.answers }
-        ensures calls { IsWhole self.old → IsHighest self.old map key result }
+        ensures above { All (IsUnder (cell_word_of self.old.sizes map key) result) self.old.answers }
+        ensures peak { AreSeatsBack self.old
+            → IsPeak (cell_word_of self.old.sizes map key) result self.old.answers }
+        ensures calls { AreSeatsBack self.old → IsHighest self.old map key result }
     {
         let word = word_at(&self.sizes, map, key);
         self.words.shared.load::<Heights>(&mut self.rest, word)

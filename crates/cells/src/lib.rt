@@ -5,7 +5,7 @@
 //! `fetch_max`. None waits for another thread. The answers of a seat exist only in proofs, in its [`SeatLog`].
 //!
 //! The tickets of all seats for a cell are the numbers below its word, each once, whatever the threads do. From 2^64
-//! tickets on this is modulo 2^64 (`IsCounted` in `specs/`). If every seat came back, [`Cells::take_back`] and
+//! tickets on this is modulo 2^64 (`IsTicketCounted` in `specs/`). If every seat came back, [`Cells::take_back`] and
 //! [`Cells::drawn`] say so. The word of a peak map's cell is the greatest number that it was raised to (`IsPeak`), as
 //! [`Cells::highest`] says.
 #![tactic(auto)]

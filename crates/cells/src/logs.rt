@@ -14,7 +14,7 @@ pub struct Answer {
     /// How many tickets had been drawn from the cell. For a peak map's cell it is the answer.
     pub exact: u64,
     /// The answer: that number modulo 2^64.
-    pub told: u64,
+    pub reported: u64,
 }
 
 /// What a seat has: the maps, its parts of the right to know all answers, and its own answers, in order. No value of

@@ -13,9 +13,9 @@ pub(crate) struct Ruled;
 
 impl TableRule<(), SeatLog, MapSizes> for Ruled {
     ghost use Rattle.std.specs.Prelude.{[]};
-    ghost use Rattle.cells.specs.Counting.{IsTable, seat_log};
+    ghost use Rattle.cells.specs.Counting.{IsCellTable, seat_log};
 
-    ghost holds = { IsTable };
+    ghost holds = { IsCellTable };
 
     ghost first = { λ maps. seat_log maps 256 [] };
 }
@@ -25,9 +25,9 @@ pub(crate) struct Counts;
 
 impl Play<(), SeatLog> for Counts {
     ghost use Rattle.machine.specs.declared.helpers.Helper.TheVariants as helpers;
-    ghost use Rattle.cells.specs.Counting.{Answers};
+    ghost use Rattle.cells.specs.Counting.{AnswersFound};
 
-    ghost then = { Answers helpers.Count };
+    ghost then = { AnswersFound helpers.Count };
 }
 
 /// A step that answers `ticket`.
@@ -35,36 +35,36 @@ pub(crate) struct Tickets;
 
 impl Play<(), SeatLog> for Tickets {
     ghost use Rattle.machine.specs.declared.helpers.Helper.TheVariants as helpers;
-    ghost use Rattle.cells.specs.Counting.{Answers};
+    ghost use Rattle.cells.specs.Counting.{AnswersFound};
 
-    ghost then = { Answers helpers.Ticket };
+    ghost then = { AnswersFound helpers.Ticket };
 }
 
 /// A step that answers `peak`.
 pub(crate) struct Peaks;
 
 impl Play<(), SeatLog> for Peaks {
-    ghost use Rattle.cells.specs.Counting.{Raises};
+    ghost use Rattle.cells.specs.Counting.{RaisesWord};
 
-    ghost then = { Raises };
+    ghost then = { RaisesWord };
 }
 
 /// A step that reports how many tickets were drawn.
 pub(crate) struct Totals;
 
 impl Play<(), SeatLog> for Totals {
-    ghost use Rattle.cells.specs.Counting.{Tells};
+    ghost use Rattle.cells.specs.Counting.{ReportsTickets};
 
-    ghost then = { Tells };
+    ghost then = { ReportsTickets };
 }
 
 /// A step that reports what a word was raised to.
 pub(crate) struct Heights;
 
 impl Play<(), SeatLog> for Heights {
-    ghost use Rattle.cells.specs.Counting.{TellsPeak};
+    ghost use Rattle.cells.specs.Counting.{ReportsPeak};
 
-    ghost then = { TellsPeak };
+    ghost then = { ReportsPeak };
 }
 
 /// A seat gives one of its parts to a new one.

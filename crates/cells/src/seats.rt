@@ -33,13 +33,13 @@ impl Model for CellSeat {
     ghost use Rattle.std.specs.Arc.{arc_value};
     ghost use Rattle.atomic_table.specs.Seated.{table_id_coded};
     ghost use Rattle.machine.specs.Sizes.{AreSizes};
-    ghost use Rattle.cells.specs.Seats.{CellSeatValue, seat, IsPlaced};
+    ghost use Rattle.cells.specs.Seats.{CellSeatValue, seat, IsSeatPlaced};
 
     ghost Value = { CellSeatValue };
 
     ghost view = { λ s. seat s.sizes (table_id_coded.code s.place.table_id) s.place.me.0.answers };
 
-    ghost invariant = { λ s. IsPlaced s.sizes (arc_value s.words).shared.key (arc_value s.words).shared.table_id s.place × (s.place.me.0.parts ≡ 1) };
+    ghost invariant = { λ s. IsSeatPlaced s.sizes (arc_value s.words).shared.key (arc_value s.words).shared.table_id s.place × (s.place.me.0.parts ≡ 1) };
 }
 
 impl CellSeat {

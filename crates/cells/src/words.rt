@@ -2,7 +2,7 @@
 
 ghost use Rattle.std.specs.Prelude.{◌≡◌, ◌≤◌, ◌<◌, length, sum, take};
 ghost use Rattle.machine.specs.Sizes.{IsInside};
-ghost use Rattle.cells.specs.Logs.{word_of};
+ghost use Rattle.cells.specs.Logs.{cell_word_of};
 
 use machine::MapSizes;
 
@@ -23,7 +23,7 @@ pub(crate) fn first_word(sizes: &MapSizes, map: u8) -> usize
 /// The word of a cell.
 pub(crate) fn word_at(sizes: &MapSizes, map: u8, key: u16) -> usize
     requires { IsInside sizes.now map key }
-    ensures word { result ≡ word_of sizes.now map key }
+    ensures word { result ≡ cell_word_of sizes.now map key }
     ensures inside { result < sum sizes.now.cells }
 {
     first_word(sizes, map) + usize::from(key)

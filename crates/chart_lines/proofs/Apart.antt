@@ -8,17 +8,17 @@ use Rattle.regions.specs.Regions.{are_same_kinds, is_same, lies_in}
 use Rattle.regions.specs.ByteSets.{are_same_bytes}
 use Rattle.regions.specs.declared.byte_sets.ByteSet.{ByteSet}
 use Rattle.regions.specs.declared.points.Point.{Point}
-use Rattle.regions.specs.declared.regions.Region.{Region}
-use Rattle.charts.specs.Lines.{IsComparison, IsMap, has_point, have_same_words, is_left, lines_of}
+use Rattle.regions.specs.declared.regions.PointRegion.{PointRegion}
+use Rattle.charts.specs.Lines.{IsComparison, IsMap, has_point, have_same_words, is_left, point_lines_of}
 use Rattle.charts.specs.Plain.{LinesArePlain}
-use Rattle.charts.specs.declared.lines.Line.{Line}
+use Rattle.charts.specs.declared.lines.ChartLine.{ChartLine}
 use Rattle.chart_lines.specs.AskedTables.{AskedValue}
 use Rattle.chart_lines.specs.Begun.{AreBegun, HasTold, IsOf, SayOther, said_by}
-use Rattle.chart_lines.specs.Compared.{IsDifferenceAt, TellsLine as DifferenceLine}
-use Rattle.chart_lines.specs.Mapped.{TellsLine as MapLine, map_told}
-use Rattle.chart_lines.specs.Rows.{AddsRow, RowValue, ToldValue, row_of}
-use Rattle.chart_lines.specs.Telling.{TellsFirst}
-use Rattle.chart_lines.specs.Witnesses.{IsWitness}
+use Rattle.chart_lines.specs.Compared.{IsDifferenceAt, PrintsLine as DifferenceLine}
+use Rattle.chart_lines.specs.Mapped.{PrintsLine as MapLine, map_line_text}
+use Rattle.chart_lines.specs.Rows.{AddsRow, RowValue, RowContentValue, row_of}
+use Rattle.chart_lines.specs.Reporting.{PrintsFirst}
+use Rattle.chart_lines.specs.Witnesses.{IsLineWitness}
 
 -- ---- a line that has a point, and one before
 
@@ -29,8 +29,8 @@ same_self false = refl
 equal_self : (n : ℕ) → (n == n) ≡ true
 equal_self n = grind (arith, nat_tests)
 
-same_words : (r : Region) → ((one other : Line) → one.region ≡ r → other.region ≡ r → have_same_words one.region other.region ≡ true)
-same_words r one other e f = ap (λ (q : Region). have_same_words q other.region) e ∙ ap (λ (q : Region). have_same_words r q) f ∙ own
+same_words : (r : PointRegion) → ((one other : ChartLine) → one.region ≡ r → other.region ≡ r → have_same_words one.region other.region ≡ true)
+same_words r one other e f = ap (λ (q : PointRegion). have_same_words q other.region) e ∙ ap (λ (q : PointRegion). have_same_words r q) f ∙ own
   where
     kinds : are_same_kinds r.kinds r.kinds ≡ true
     kinds = rw (same_self r.kinds.read, same_self r.kinds.write, same_self r.kinds.rmw) refl
@@ -46,7 +46,7 @@ no_more true = refl
 no_more false = refl
 
 -- the rest does not have what an earlier line with the same words has
-taken_gone : (before : List Line) (line : Line) (n : ℕ) (d : Line) (p : Point) → n < length before
+taken_gone : (before : List ChartLine) (line : ChartLine) (n : ℕ) (d : ChartLine) (p : Point) → n < length before
     → (have_same_words (get_or before n d).region line.region && lies_in (get_or before n d).region p) ≡ true → is_left before line p ≡ false
 taken_gone [] line n d p there takes = absurd (omega arith)
 taken_gone (other ∷ others) line zero d p there takes = ap (λ (t : Bool). not t && is_left others line p) takes
@@ -54,56 +54,56 @@ taken_gone (other ∷ others) line (suc n) d p there takes =
     ap (λ (t : Bool). not (have_same_words other.region line.region && lies_in other.region p) && t) (taken_gone others line n d p (omega arith) takes)
     ∙ no_more (not (have_same_words other.region line.region && lies_in other.region p))
 
-nil_behind : (xs : List Line) → xs ++ [] ≡ xs
+nil_behind : (xs : List ChartLine) → xs ++ [] ≡ xs
 nil_behind [] = refl
-nil_behind (x ∷ xs) = ap (λ (ls : List Line). x ∷ ls) (nil_behind xs)
+nil_behind (x ∷ xs) = ap (λ (ls : List ChartLine). x ∷ ls) (nil_behind xs)
 
-at_first : (before lines : List Line) (line : Line) (n : ℕ) (own : Line) (p : Point) → has_point (before ++ line ∷ take n lines) own p ≡ true → has_point ((before ++ line ∷ []) ++ take n lines) own p ≡ true
-at_first before lines line n own p h = ap (λ (ls : List Line). has_point ls own p) (append_assoc before (line ∷ []) (take n lines)) ∙ h
+at_first : (before lines : List ChartLine) (line : ChartLine) (n : ℕ) (own : ChartLine) (p : Point) → has_point (before ++ line ∷ take n lines) own p ≡ true → has_point ((before ++ line ∷ []) ++ take n lines) own p ≡ true
+at_first before lines line n own p h = ap (λ (ls : List ChartLine). has_point ls own p) (append_assoc before (line ∷ []) (take n lines)) ∙ h
 
 -- a point that a line has is reported
-one_there : (before lines : List Line) (n : ℕ) (d : Line) (p : Point) → n < length lines → has_point (before ++ take n lines) (get_or lines n d) p ≡ true → 1 ≤ length (lines_of before lines p)
+one_there : (before lines : List ChartLine) (n : ℕ) (d : ChartLine) (p : Point) → n < length lines → has_point (before ++ take n lines) (get_or lines n d) p ≡ true → 1 ≤ length (point_lines_of before lines p)
 one_there before [] n d p there h = absurd (omega arith)
 one_there before (line ∷ lines) zero d p there h =
-    step (has_point before line p) (lines_of (before ++ line ∷ []) lines p) (ap (λ (ls : List Line). has_point ls line p) (sym (nil_behind before)) ∙ h)
+    step (has_point before line p) (point_lines_of (before ++ line ∷ []) lines p) (ap (λ (ls : List ChartLine). has_point ls line p) (sym (nil_behind before)) ∙ h)
   where
-    step : (t : Bool) (rest : List Line) → t ≡ true → 1 ≤ length (if t then line ∷ rest else rest)
+    step : (t : Bool) (rest : List ChartLine) → t ≡ true → 1 ≤ length (if t then line ∷ rest else rest)
     step true rest e = omega arith
     step false rest e = absurd (cc (e))
 one_there before (line ∷ lines) (suc n) d p there h =
-    step (has_point before line p) (lines_of (before ++ line ∷ []) lines p) (one_there (before ++ line ∷ []) lines n d p (omega arith) (at_first before lines line n (get_or lines n d) p h))
+    step (has_point before line p) (point_lines_of (before ++ line ∷ []) lines p) (one_there (before ++ line ∷ []) lines n d p (omega arith) (at_first before lines line n (get_or lines n d) p h))
   where
-    step : (t : Bool) (rest : List Line) → 1 ≤ length rest → 1 ≤ length (if t then line ∷ rest else rest)
+    step : (t : Bool) (rest : List ChartLine) → 1 ≤ length rest → 1 ≤ length (if t then line ∷ rest else rest)
     step true rest more = omega arith
     step false rest more = more
 
 -- and one that two have is reported twice
-two_there : (before lines : List Line) (n m : ℕ) (d : Line) (p : Point) → n < m → m < length lines → has_point (before ++ take n lines) (get_or lines n d) p ≡ true
-    → has_point (before ++ take m lines) (get_or lines m d) p ≡ true → 2 ≤ length (lines_of before lines p)
+two_there : (before lines : List ChartLine) (n m : ℕ) (d : ChartLine) (p : Point) → n < m → m < length lines → has_point (before ++ take n lines) (get_or lines n d) p ≡ true
+    → has_point (before ++ take m lines) (get_or lines m d) p ≡ true → 2 ≤ length (point_lines_of before lines p)
 two_there before [] n m d p lt there h k = absurd (omega arith)
 two_there before (line ∷ lines) n zero d p lt there h k = absurd (omega (arith, lt))
 two_there before (line ∷ lines) zero (suc m) d p lt there h k =
-    step (has_point before line p) (lines_of (before ++ line ∷ []) lines p) (ap (λ (ls : List Line). has_point ls line p) (sym (nil_behind before)) ∙ h)
+    step (has_point before line p) (point_lines_of (before ++ line ∷ []) lines p) (ap (λ (ls : List ChartLine). has_point ls line p) (sym (nil_behind before)) ∙ h)
     (one_there (before ++ line ∷ []) lines m d p (omega arith) (at_first before lines line m (get_or lines m d) p k))
   where
-    step : (t : Bool) (rest : List Line) → t ≡ true → 1 ≤ length rest → 2 ≤ length (if t then line ∷ rest else rest)
+    step : (t : Bool) (rest : List ChartLine) → t ≡ true → 1 ≤ length rest → 2 ≤ length (if t then line ∷ rest else rest)
     step true rest e more = omega (arith, more)
     step false rest e more = absurd (cc (e))
 two_there before (line ∷ lines) (suc n) (suc m) d p lt there h k =
-    step (has_point before line p) (lines_of (before ++ line ∷ []) lines p)
+    step (has_point before line p) (point_lines_of (before ++ line ∷ []) lines p)
     (two_there (before ++ line ∷ []) lines n m d p (omega (arith, lt)) (omega arith) (at_first before lines line n (get_or lines n d) p h) (at_first before lines line m (get_or lines m d) p k))
   where
-    step : (t : Bool) (rest : List Line) → 2 ≤ length rest → 2 ≤ length (if t then line ∷ rest else rest)
+    step : (t : Bool) (rest : List ChartLine) → 2 ≤ length rest → 2 ≤ length (if t then line ∷ rest else rest)
     step true rest more = omega (arith, more)
     step false rest more = more
 
-at_take : (lines : List Line) (n m : ℕ) (d : Line) → n < m → m < length lines → get_or (take m lines) n d ≡ get_or lines n d
+at_take : (lines : List ChartLine) (n m : ℕ) (d : ChartLine) → n < m → m < length lines → get_or (take m lines) n d ≡ get_or lines n d
 at_take [] n m d lt there = absurd (omega arith)
 at_take (line ∷ lines) n zero d lt there = absurd (omega (arith, lt))
 at_take (line ∷ lines) zero (suc m) d lt there = refl
 at_take (line ∷ lines) (suc n) (suc m) d lt there = at_take lines n m d (omega (arith, lt)) (omega arith)
 
-length_take : (lines : List Line) (m : ℕ) → m < length lines → length (take m lines) ≡ m
+length_take : (lines : List ChartLine) (m : ℕ) → m < length lines → length (take m lines) ≡ m
 length_take [] m there = absurd (omega arith)
 length_take (line ∷ lines) zero there = refl
 length_take (line ∷ lines) (suc m) there = ap suc (length_take lines m (omega arith))
@@ -116,28 +116,28 @@ parts : (a b : Bool) → (a && b) ≡ true → (a ≡ true) × (b ≡ true)
 parts true b e = (refl, e)
 parts false b e = absurd (cc (e))
 
-module _ (lines : List Line) (n m : ℕ) (line : Line) (p : Point) (lt : n < m) (there : m < length lines) (own : (d : Line) → get_or lines m d ≡ line) (has : has_point (take m lines) line p ≡ true)
-    (alone : lines_of [] lines p ≡ line ∷ []) (region : (d : Line) → (get_or lines n d).region ≡ line.region) (rest : (d : Line) → (get_or lines n d).rest ≡ line.rest) where
+module _ (lines : List ChartLine) (n m : ℕ) (line : ChartLine) (p : Point) (lt : n < m) (there : m < length lines) (own : (d : ChartLine) → get_or lines m d ≡ line) (has : has_point (take m lines) line p ≡ true)
+    (alone : point_lines_of [] lines p ≡ line ∷ []) (region : (d : ChartLine) → (get_or lines n d).region ≡ line.region) (rest : (d : ChartLine) → (get_or lines n d).rest ≡ line.rest) where
   lies : lies_in line.region p ≡ true
   lies = (parts (lies_in line.region p) (not line.rest || is_left (take m lines) line p) has).0
 
   lies_early : lies_in (get_or lines n line).region p ≡ true
-  lies_early = ap (λ (r : Region). lies_in r p) (region line) ∙ lies
+  lies_early = ap (λ (r : PointRegion). lies_in r p) (region line) ∙ lies
 
   by_rest : (t : Bool) → line.rest ≡ t → ⊥
   by_rest true e =
       let left : is_left (take m lines) line p ≡ true = ap (λ (t : Bool). not t || is_left (take m lines) line p) (sym e) ∙ (parts (lies_in line.region p) (not line.rest || is_left (take m lines) line p) has).1 in
       let early : get_or (take m lines) n line ≡ get_or lines n line = at_take lines n m line lt there in
       let takes : (have_same_words (get_or (take m lines) n line).region line.region && lies_in (get_or (take m lines) n line).region p) ≡ true =
-      ap (λ (l : Line). have_same_words l.region line.region && lies_in l.region p) early
+      ap (λ (l : ChartLine). have_same_words l.region line.region && lies_in l.region p) early
       ∙ both_true (have_same_words (get_or lines n line).region line.region) (lies_in (get_or lines n line).region p) (same_words line.region (get_or lines n line) line (region line) refl) lies_early in
       absurd (cc (left, taken_gone (take m lines) line n line p (omega (arith, lt, length_take lines m there)) takes))
   by_rest false e =
       let early : has_point (take n lines) (get_or lines n line) p ≡ true =
       both_true (lies_in (get_or lines n line).region p) (not (get_or lines n line).rest || is_left (take n lines) (get_or lines n line) p) lies_early (ap (λ (t : Bool). not t || is_left (take n lines) (get_or lines n line) p) (rest line ∙ e)) in
-      let late : has_point (take m lines) (get_or lines m line) p ≡ true = ap (λ (l : Line). has_point (take m lines) l p) (own line) ∙ has in
-      let two : 2 ≤ length (lines_of [] lines p) = two_there [] lines n m line p lt there early late in
-      let one : length (lines_of [] lines p) ≡ 1 = ap (λ (ls : List Line). length ls) alone in
+      let late : has_point (take m lines) (get_or lines m line) p ≡ true = ap (λ (l : ChartLine). has_point (take m lines) l p) (own line) ∙ has in
+      let two : 2 ≤ length (point_lines_of [] lines p) = two_there [] lines n m line p lt there early late in
+      let one : length (point_lines_of [] lines p) ≡ 1 = ap (λ (ls : List ChartLine). length ls) alone in
       absurd (omega (arith, two, one))
 
   pub other_words : ⊥
@@ -145,123 +145,123 @@ module _ (lines : List Line) (n m : ℕ) (line : Line) (p : Point) (lt : n < m) 
 
 -- ---- what rows say of a chart
 
-of_more : (chart : List Line) (count : ℕ) (said : ToldValue) → IsOf chart count said → IsOf chart (suc count) said
+of_more : (chart : List ChartLine) (count : ℕ) (said : RowContentValue) → IsOf chart count said → IsOf chart (suc count) said
 of_more chart count said is = record { place = is.place; before = omega (arith, is.before); region = is.region; rest = is.rest }
 
-said_set : (rows : List RowValue) (place : ℕ) (d : RowValue) (ports : List ℕ) (said : ToldValue) → (get_or rows place d).told ≡ said → said_by (slice_set rows place (row_of ports said)) ≡ said_by rows
+said_set : (rows : List RowValue) (place : ℕ) (d : RowValue) (ports : List ℕ) (said : RowContentValue) → (get_or rows place d).reported ≡ said → said_by (slice_set rows place (row_of ports said)) ≡ said_by rows
 said_set [] place d ports said same = refl
-said_set (row ∷ rows) zero d ports said same = ap (λ (t : ToldValue). t ∷ said_by rows) (sym same)
-said_set (row ∷ rows) (suc place) d ports said same = ap (λ (ts : List ToldValue). row.told ∷ ts) (said_set rows place d ports said same)
+said_set (row ∷ rows) zero d ports said same = ap (λ (t : RowContentValue). t ∷ said_by rows) (sym same)
+said_set (row ∷ rows) (suc place) d ports said same = ap (λ (ts : List RowContentValue). row.reported ∷ ts) (said_set rows place d ports said same)
 
 length_said : (rows : List RowValue) → length (said_by rows) ≡ length rows
 length_said [] = refl
 length_said (row ∷ rows) = ap suc (length_said rows)
 
 same_length : (rows others : List RowValue) → said_by rows ≡ said_by others → length rows ≡ length others
-same_length rows others same = sym (length_said rows) ∙ ap (λ (ts : List ToldValue). length ts) same ∙ length_said others
+same_length rows others same = sym (length_said rows) ∙ ap (λ (ts : List RowContentValue). length ts) same ∙ length_said others
 
 -- one row more, of the next line
-begun_more : (chart : List Line) (count from : ℕ) (ports : List ℕ) (said : ToldValue) (before after : List RowValue) → AreBegun chart count from before → IsOf chart (suc count) said
+begun_more : (chart : List ChartLine) (count from : ℕ) (ports : List ℕ) (said : RowContentValue) (before after : List RowValue) → AreBegun chart count from before → IsOf chart (suc count) said
     → AddsRow ports said before after → AreBegun chart (suc count) from after
 begun_more chart count from ports said before after begun own (inl joins) =
     let row : RowValue = row_of ports said in
     let same : said_by after ≡ said_by before = ap (λ (rows : List RowValue). said_by rows) (joins.is row) ∙ said_set before joins.place row ((get_or before joins.place row).ports ++ ports) said (joins.same row) in
     record {
       longer = omega (arith, begun.longer, same_length after before same);
-      lines = subst (λ (ts : List ToldValue). All (IsOf chart (suc count)) (drop from ts)) (sym same) (All-weaker (IsOf chart count) (IsOf chart (suc count)) (of_more chart count) (drop from (said_by before)) begun.lines);
+      lines = subst (λ (ts : List RowContentValue). All (IsOf chart (suc count)) (drop from ts)) (sym same) (All-weaker (IsOf chart count) (IsOf chart (suc count)) (of_more chart count) (drop from (said_by before)) begun.lines);
     }
 begun_more chart count from ports said before after begun own (inr adds) =
     let row : List RowValue = row_of ports said ∷ [] in
-    let same : said_by after ≡ said_by before ++ said ∷ [] = ap (λ (rows : List RowValue). said_by rows) adds.1 ∙ map-append (λ (r : RowValue). r.told) before row in
+    let same : said_by after ≡ said_by before ++ said ∷ [] = ap (λ (rows : List RowValue). said_by rows) adds.1 ∙ map-append (λ (r : RowValue). r.reported) before row in
     let within : from ≤ length (said_by before) = omega (arith, begun.longer, length_said before) in
     record {
-      longer = omega (arith, begun.longer, length_said before, length_said after, ap (λ (ts : List ToldValue). length ts) same, length_more (said_by before) said);
-      lines = subst (λ (ts : List ToldValue). All (IsOf chart (suc count)) ts) (sym (ap (λ (ts : List ToldValue). drop from ts) same ∙ drop-append-le from (said_by before) (said ∷ []) within))
+      longer = omega (arith, begun.longer, length_said before, length_said after, ap (λ (ts : List RowContentValue). length ts) same, length_more (said_by before) said);
+      lines = subst (λ (ts : List RowContentValue). All (IsOf chart (suc count)) ts) (sym (ap (λ (ts : List RowContentValue). drop from ts) same ∙ drop-append-le from (said_by before) (said ∷ []) within))
           (All-append (IsOf chart (suc count)) (drop from (said_by before)) (said ∷ []) (All-weaker (IsOf chart count) (IsOf chart (suc count)) (of_more chart count) (drop from (said_by before)) begun.lines)
           (All-cons (IsOf chart (suc count)) said [] own (All-nil (IsOf chart (suc count)))));
     }
   where
-    length_more : (ts : List ToldValue) (t : ToldValue) → length (ts ++ t ∷ []) ≡ suc (length ts)
+    length_more : (ts : List RowContentValue) (t : RowContentValue) → length (ts ++ t ∷ []) ≡ suc (length ts)
     length_more [] t = refl
     length_more (u ∷ ts) t = ap suc (length_more ts t)
 
-begun_same : (chart : List Line) (count from : ℕ) (before after : List RowValue) → AreBegun chart count from before → after ≡ before → AreBegun chart (suc count) from after
+begun_same : (chart : List ChartLine) (count from : ℕ) (before after : List RowValue) → AreBegun chart count from before → after ≡ before → AreBegun chart (suc count) from after
 begun_same chart count from before after begun same = record {
   longer = omega (arith, begun.longer, ap (λ (rows : List RowValue). length rows) same);
   lines = subst (λ (rows : List RowValue). All (IsOf chart (suc count)) (drop from (said_by rows))) (sym same) (All-weaker (IsOf chart count) (IsOf chart (suc count)) (of_more chart count) (drop from (said_by before)) begun.lines);
 }
 
-begun_none : (chart : List Line) (from : ℕ) (rows : List RowValue) → from ≡ length rows → AreBegun chart 0 from rows
+begun_none : (chart : List ChartLine) (from : ℕ) (rows : List RowValue) → from ≡ length rows → AreBegun chart 0 from rows
 begun_none chart from rows counted = record {
   longer = omega (arith, counted);
-  lines = subst (λ (ts : List ToldValue). All (IsOf chart 0) ts) (sym (all_dropped from (said_by rows) (omega (arith, counted, length_said rows)))) (All-nil (IsOf chart 0));
+  lines = subst (λ (ts : List RowContentValue). All (IsOf chart 0) ts) (sym (all_dropped from (said_by rows) (omega (arith, counted, length_said rows)))) (All-nil (IsOf chart 0));
 }
   where
-    all_dropped : (n : ℕ) (ts : List ToldValue) → n ≡ length ts → drop n ts ≡ []
+    all_dropped : (n : ℕ) (ts : List RowContentValue) → n ≡ length ts → drop n ts ≡ []
     all_dropped zero [] e = refl
     all_dropped (suc n) [] e = absurd (omega (arith, e))
     all_dropped zero (t ∷ ts) e = absurd (omega (arith, e))
     all_dropped (suc n) (t ∷ ts) e = all_dropped n ts (omega (arith, e))
 
-begun_mapped : (ports : List ℕ) (at : AskedValue) (chart : List Line) (count from : ℕ) (first rows : List RowValue) → from ≡ length first → TellsFirst (MapLine ports at chart) count first rows → AreBegun chart count from rows
+begun_mapped : (ports : List ℕ) (at : AskedValue) (chart : List ChartLine) (count from : ℕ) (first rows : List RowValue) → from ≡ length first → PrintsFirst (MapLine ports at chart) count first rows → AreBegun chart count from rows
 begun_mapped ports at chart zero from first rows counted same = begun_none chart from rows (counted ∙ ap (λ (rs : List RowValue). length rs) (sym same))
-begun_mapped ports at chart (suc count) from first rows counted (middle, told, inl line) =
-    begun_more chart count from ports _ middle rows (begun_mapped ports at chart count from first middle counted told)
-    (record { place = count; before = omega arith; region = λ d. ap (λ (l : Line). l.region) (line.own d); rest = λ d. ap (λ (l : Line). l.rest) (line.own d) }) line.row
-begun_mapped ports at chart (suc count) from first rows counted (middle, told, inr none) =
-    begun_same chart count from middle rows (begun_mapped ports at chart count from first middle counted told) none.1
+begun_mapped ports at chart (suc count) from first rows counted (middle, reported, inl line) =
+    begun_more chart count from ports _ middle rows (begun_mapped ports at chart count from first middle counted reported)
+    (record { place = count; before = omega arith; region = λ d. ap (λ (l : ChartLine). l.region) (line.own d); rest = λ d. ap (λ (l : ChartLine). l.rest) (line.own d) }) line.row
+begun_mapped ports at chart (suc count) from first rows counted (middle, reported, inr none) =
+    begun_same chart count from middle rows (begun_mapped ports at chart count from first middle counted reported) none.1
 
-begun_compared : (ports : List ℕ) (old new : AskedValue) (chart : List Line) (count from : ℕ) (first rows : List RowValue) → from ≡ length first → TellsFirst (DifferenceLine ports old new chart) count first rows → AreBegun chart count from rows
+begun_compared : (ports : List ℕ) (old new : AskedValue) (chart : List ChartLine) (count from : ℕ) (first rows : List RowValue) → from ≡ length first → PrintsFirst (DifferenceLine ports old new chart) count first rows → AreBegun chart count from rows
 begun_compared ports old new chart zero from first rows counted same = begun_none chart from rows (counted ∙ ap (λ (rs : List RowValue). length rs) (sym same))
-begun_compared ports old new chart (suc count) from first rows counted (middle, told, inl line) =
-    begun_more chart count from ports line.said middle rows (begun_compared ports old new chart count from first middle counted told)
+begun_compared ports old new chart (suc count) from first rows counted (middle, reported, inl line) =
+    begun_more chart count from ports line.said middle rows (begun_compared ports old new chart count from first middle counted reported)
     (record {
       place = count;
       before = omega arith;
-      region = λ d. ap (λ (l : Line). l.region) (line.own d) ∙ sym (ap (λ (t : ToldValue). t.region) line.is_difference.is);
-      rest = λ d. ap (λ (l : Line). l.rest) (line.own d) ∙ sym (ap (λ (t : ToldValue). t.rest) line.is_difference.is);
+      region = λ d. ap (λ (l : ChartLine). l.region) (line.own d) ∙ sym (ap (λ (t : RowContentValue). t.region) line.is_difference.is);
+      rest = λ d. ap (λ (l : ChartLine). l.rest) (line.own d) ∙ sym (ap (λ (t : RowContentValue). t.rest) line.is_difference.is);
     }) line.row
-begun_compared ports old new chart (suc count) from first rows counted (middle, told, inr none) =
-    begun_same chart count from middle rows (begun_compared ports old new chart count from first middle counted told) none.1
+begun_compared ports old new chart (suc count) from first rows counted (middle, reported, inr none) =
+    begun_same chart count from middle rows (begun_compared ports old new chart count from first middle counted reported) none.1
 
 -- ---- no row of the chart says the next line
 
-others_by : (chart : List Line) (place : ℕ) (line : Line) (p : Point) (said : ToldValue) (rows : List RowValue) (from : ℕ) → place < length chart → ((d : Line) → get_or chart place d ≡ line)
-    → has_point (take place chart) line p ≡ true → lines_of [] chart p ≡ line ∷ [] → said.region ≡ line.region → said.rest ≡ line.rest → AreBegun chart place from rows → SayOther said from rows
+others_by : (chart : List ChartLine) (place : ℕ) (line : ChartLine) (p : Point) (said : RowContentValue) (rows : List RowValue) (from : ℕ) → place < length chart → ((d : ChartLine) → get_or chart place d ≡ line)
+    → has_point (take place chart) line p ≡ true → point_lines_of [] chart p ≡ line ∷ [] → said.region ≡ line.region → said.rest ≡ line.rest → AreBegun chart place from rows → SayOther said from rows
 others_by chart place line p said rows from there own has alone region rest begun = record { within = begun.longer; other = each from rows begun.lines }
   where
-    apart : (told : ToldValue) → IsOf chart place told → told ≢ said
-    apart told is same =
+    apart : (reported : RowContentValue) → IsOf chart place reported → reported ≢ said
+    apart reported is same =
         other_words chart is.place place line p is.before there own has alone
-        (λ d. is.region d ∙ ap (λ (t : ToldValue). t.region) same ∙ region) (λ d. is.rest d ∙ ap (λ (t : ToldValue). t.rest) same ∙ rest)
+        (λ d. is.region d ∙ ap (λ (t : RowContentValue). t.region) same ∙ region) (λ d. is.rest d ∙ ap (λ (t : RowContentValue). t.rest) same ∙ rest)
 
-    each_all : (rows : List RowValue) → All (IsOf chart place) (said_by rows) → All (λ (row : RowValue). row.told ≢ said) rows
-    each_all [] h = All-nil (λ (row : RowValue). row.told ≢ said)
+    each_all : (rows : List RowValue) → All (IsOf chart place) (said_by rows) → All (λ (row : RowValue). row.reported ≢ said) rows
+    each_all [] h = All-nil (λ (row : RowValue). row.reported ≢ said)
     each_all (row ∷ rows) h =
-        All-cons (λ (row : RowValue). row.told ≢ said) row rows (apart row.told (All-head (IsOf chart place) row.told (said_by rows) h)) (each_all rows (All-tail (IsOf chart place) row.told (said_by rows) h))
+        All-cons (λ (row : RowValue). row.reported ≢ said) row rows (apart row.reported (All-head (IsOf chart place) row.reported (said_by rows) h)) (each_all rows (All-tail (IsOf chart place) row.reported (said_by rows) h))
 
-    each : (from : ℕ) (rows : List RowValue) → All (IsOf chart place) (drop from (said_by rows)) → All (λ (row : RowValue). row.told ≢ said) (drop from rows)
+    each : (from : ℕ) (rows : List RowValue) → All (IsOf chart place) (drop from (said_by rows)) → All (λ (row : RowValue). row.reported ≢ said) (drop from rows)
     each zero rows h = each_all rows h
-    each (suc from) [] h = All-nil (λ (row : RowValue). row.told ≢ said)
+    each (suc from) [] h = All-nil (λ (row : RowValue). row.reported ≢ said)
     each (suc from) (row ∷ rows) h = each from rows h
 
-own_point : (lines : List Line) (place : ℕ) (line : Line) (p : Point) → ((other : Line) → get_or lines place other ≡ line) → IsWitness lines place p → has_point (take place lines) line p ≡ true
-own_point lines place line p own witness = subst (λ (l : Line). has_point (take place lines) l p ≡ true) (own line) (witness.lies line)
+own_point : (lines : List ChartLine) (place : ℕ) (line : ChartLine) (p : Point) → ((other : ChartLine) → get_or lines place other ≡ line) → IsLineWitness lines place p → has_point (take place lines) line p ≡ true
+own_point lines place line p own witness = subst (λ (l : ChartLine). has_point (take place lines) l p ≡ true) (own line) (witness.lies line)
 
 -- of a map
-pub others_mapped : LinesArePlain → (asked : Region) (ports : List ℕ) (at : AskedValue) (lines : List Line) → IsMap asked at.rules lines → (place : ℕ) (line : Line) (p : Point) (said : ToldValue) (rows : List RowValue) (from : ℕ)
-    → place < length lines → ((other : Line) → get_or lines place other ≡ line) → IsWitness lines place p → said ≡ map_told at line p → HasTold (MapLine ports at lines) place from rows → SayOther said from rows
-others_mapped law asked ports at lines is place line p said rows from there own witness same told =
+pub others_mapped : LinesArePlain → (asked : PointRegion) (ports : List ℕ) (at : AskedValue) (lines : List ChartLine) → IsMap asked at.rules lines → (place : ℕ) (line : ChartLine) (p : Point) (said : RowContentValue) (rows : List RowValue) (from : ℕ)
+    → place < length lines → ((other : ChartLine) → get_or lines place other ≡ line) → IsLineWitness lines place p → said ≡ map_line_text at line p → HasTold (MapLine ports at lines) place from rows → SayOther said from rows
+others_mapped law asked ports at lines is place line p said rows from there own witness same reported =
     let has = own_point lines place line p own witness in
     let plain = law asked true at.rules [] lines is place line there own p witness.command has in
-    others_by lines place line p said rows from there own has plain.alone (ap (λ (t : ToldValue). t.region) same) (ap (λ (t : ToldValue). t.rest) same)
-    (begun_mapped ports at lines place from told.first rows told.counted told.told)
+    others_by lines place line p said rows from there own has plain.alone (ap (λ (t : RowContentValue). t.region) same) (ap (λ (t : RowContentValue). t.rest) same)
+    (begun_mapped ports at lines place from reported.first rows reported.counted reported.reported)
 
 -- of a comparison
-pub others_compared : LinesArePlain → (asked : Region) (ports : List ℕ) (old new : AskedValue) (lines : List Line) → IsComparison asked old.rules new.rules lines → (place : ℕ) (line : Line) (p : Point) (said : ToldValue) (rows : List RowValue) (from : ℕ)
-    → place < length lines → ((other : Line) → get_or lines place other ≡ line) → IsWitness lines place p → IsDifferenceAt old new line p said → HasTold (DifferenceLine ports old new lines) place from rows → SayOther said from rows
-others_compared law asked ports old new lines compared place line p said rows from there own witness is told =
+pub others_compared : LinesArePlain → (asked : PointRegion) (ports : List ℕ) (old new : AskedValue) (lines : List ChartLine) → IsComparison asked old.rules new.rules lines → (place : ℕ) (line : ChartLine) (p : Point) (said : RowContentValue) (rows : List RowValue) (from : ℕ)
+    → place < length lines → ((other : ChartLine) → get_or lines place other ≡ line) → IsLineWitness lines place p → IsDifferenceAt old new line p said → HasTold (DifferenceLine ports old new lines) place from rows → SayOther said from rows
+others_compared law asked ports old new lines compared place line p said rows from there own witness is reported =
     let has = own_point lines place line p own witness in
     let plain = law asked false old.rules new.rules lines compared place line there own p witness.command has in
-    others_by lines place line p said rows from there own has plain.alone (ap (λ (t : ToldValue). t.region) is.is) (ap (λ (t : ToldValue). t.rest) is.is)
-    (begun_compared ports old new lines place from told.first rows told.counted told.told)
+    others_by lines place line p said rows from there own has plain.alone (ap (λ (t : RowContentValue). t.region) is.is) (ap (λ (t : RowContentValue). t.rest) is.is)
+    (begun_compared ports old new lines place from reported.first rows reported.counted reported.reported)

@@ -1,7 +1,7 @@
 mod Joining
 mod Limits
 mod Somewhere
-mod Telling
+mod Reporting
 mod WitnessPoints
 mod Apart
 mod Behind

@@ -7,7 +7,7 @@ use Rattle.chart_lines.specs.AskedTables.{AskedValue}
 use Rattle.policy_table.specs.Policies.{PolicyValue}
 use Rattle.policy_table.specs.declared.port_rules.PortRule.{PortRule}
 use Rattle.chart_lines.specs.Never.{AreNotes, AreTables, IsFate, IsFateAt, IsNoFate, IsNotedAt, IsNowhere, IsSomewhere}
-use Rattle.chart_lines.specs.Telling.{TellsFirst}
+use Rattle.chart_lines.specs.Reporting.{PrintsFirst}
 use Rattle.chart_lines.specs.declared.never.Note.{Note}
 use Rattle.chart_lines.specs.declared.never.Fate.{Fate}
 
@@ -33,10 +33,10 @@ fate_at fate tables line place own false f h d = subst (λ (a : AskedValue). IsN
 
 -- the notes of the rules of a table, by the slices that were lent
 pub noted : (policy : PolicyValue) (tables slice : List AskedValue) (rules : List PortRule) (notes : List Note) → AreTables policy 32 tables → slice ≡ tables → rules ≡ policy.rules
-    → TellsFirst (IsNotedAt slice rules) (length rules) [] notes → AreNotes policy notes
-noted policy tables slice rules notes are same own told = record {
+    → PrintsFirst (IsNotedAt slice rules) (length rules) [] notes → AreNotes policy notes
+noted policy tables slice rules notes are same own reported = record {
   tables = tables;
   are_tables = are;
-  noted = subst (λ (rs : List PortRule). TellsFirst (IsNotedAt tables rs) (length rs) [] notes) own
-      (subst (λ (ts : List AskedValue). TellsFirst (IsNotedAt ts rules) (length rules) [] notes) same told);
+  noted = subst (λ (rs : List PortRule). PrintsFirst (IsNotedAt tables rs) (length rs) [] notes) own
+      (subst (λ (ts : List AskedValue). PrintsFirst (IsNotedAt ts rules) (length rules) [] notes) same reported);
 }

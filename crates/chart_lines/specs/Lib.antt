@@ -4,6 +4,6 @@ pub mod Mapped
 pub mod Never
 pub mod Ports
 pub mod Rows
-pub mod Telling
+pub mod Reporting
 pub mod Witnesses
 pub mod Begun

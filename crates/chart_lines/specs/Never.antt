@@ -9,9 +9,9 @@ use Rattle.policy_table.specs.declared.port_rules.PortRule.{PortRule}
 use Rattle.policy_table.specs.declared.rules.Quota.{Quota}
 use Rattle.chart_lines.specs.AskedTables.{AskedValue, asked_at}
 use Rattle.chart_lines.specs.Ports.{AtPort}
-use Rattle.chart_lines.specs.Telling.{TellsFirst}
+use Rattle.chart_lines.specs.Reporting.{PrintsFirst}
 use Rattle.chart_lines.specs.declared.never.Fate.{Fate}
-use Rattle.chart_lines.specs.declared.never.Fate.TheVariants.{Matching, Asked, Stopped, Met}
+use Rattle.chart_lines.specs.declared.never.Fate.TheVariants.{Matching, AskedRules, Stopped, Met}
 use Rattle.chart_lines.specs.declared.never.Note.{Note}
 use Rattle.chart_lines.specs.declared.never.Reason.{Reason}
 use Rattle.chart_lines.specs.declared.never.Reason.TheVariants.{NoTicket, Drawn, Before}
@@ -24,8 +24,8 @@ place_from place line [] = None
 place_from place line (own ∷ lines) = if own == line then Some place else place_from (suc place) line lines
 
 -- the place of the rule of a line, from 0 on, if it is asked
-abbrev pub place_of : (line : ℕ) → List ℕ → Option ℕ
-place_of line lines = place_from 0 line lines
+abbrev pub asked_place_of : (line : ℕ) → List ℕ → Option ℕ
+asked_place_of line lines = place_from 0 line lines
 
 -- there is a place, and this holds there
 abbrev pub SomePlace : (holds : ℕ → Type 0) → Option ℕ → Type 0
@@ -39,30 +39,30 @@ AnyPlace holds (Some place) = holds place
 
 -- this holds of the rule of a line at a port:
 -- - `Matching`: it decides on some command
--- - `Asked`: it is asked at some point
+-- - `AskedRules`: it is asked at some point
 -- - `Stopped stop`: it holds at some point at which the rule of line `stop` is the first without quota
 -- - `Met other`: it holds at some point at which the rule of line `other` is asked
 abbrev pub IsFate : Fate → AskedValue → (line : ℕ) → Type 0
-IsFate Matching at line = SomePlace (Matches at.rules) (place_of line at.lines)
-IsFate Asked at line = SomePlace (λ place. Meet place false place at.rules) (place_of line at.lines)
+IsFate Matching at line = SomePlace (Matches at.rules) (asked_place_of line at.lines)
+IsFate AskedRules at line = SomePlace (λ place. Meet place false place at.rules) (asked_place_of line at.lines)
 IsFate (Stopped stop) at line =
-    SomePlace (λ place. SomePlace (λ first. Meet first true place at.rules) (place_of stop at.lines)) (place_of line at.lines)
+    SomePlace (λ place. SomePlace (λ first. Meet first true place at.rules) (asked_place_of stop at.lines)) (asked_place_of line at.lines)
 IsFate (Met other) at line =
-    SomePlace (λ place. SomePlace (λ asked. Meet asked false place at.rules) (place_of other at.lines)) (place_of line at.lines)
+    SomePlace (λ place. SomePlace (λ asked. Meet asked false place at.rules) (asked_place_of other at.lines)) (asked_place_of line at.lines)
 
 -- it is not so
 abbrev pub IsNoFate : Fate → AskedValue → (line : ℕ) → Type 0
-IsNoFate Matching at line = AnyPlace (NeverMatches at.rules) (place_of line at.lines)
-IsNoFate Asked at line = AnyPlace (λ place. NeverMeet place false place at.rules) (place_of line at.lines)
+IsNoFate Matching at line = AnyPlace (NeverMatches at.rules) (asked_place_of line at.lines)
+IsNoFate AskedRules at line = AnyPlace (λ place. NeverMeet place false place at.rules) (asked_place_of line at.lines)
 IsNoFate (Stopped stop) at line =
-    AnyPlace (λ place. AnyPlace (λ first. NeverMeet first true place at.rules) (place_of stop at.lines)) (place_of line at.lines)
+    AnyPlace (λ place. AnyPlace (λ first. NeverMeet first true place at.rules) (asked_place_of stop at.lines)) (asked_place_of line at.lines)
 IsNoFate (Met other) at line =
-    AnyPlace (λ place. AnyPlace (λ asked. NeverMeet asked false place at.rules) (place_of other at.lines)) (place_of line at.lines)
+    AnyPlace (λ place. AnyPlace (λ asked. NeverMeet asked false place at.rules) (asked_place_of other at.lines)) (asked_place_of line at.lines)
 
 -- the tables of those of this many ports that have charts
 abbrev pub AreTables : PolicyValue → (count : ℕ) → (tables : List AskedValue) → Type 0
 AreTables policy count tables =
-    TellsFirst (AtPort (λ port. is_named port policy.rules) (λ port before after. after ≡ before ++ asked_at policy port ∷ [])) count [] tables
+    PrintsFirst (AtPort (λ port. is_named port policy.rules) (λ port before after. after ≡ before ++ asked_at policy port ∷ [])) count [] tables
 
 -- whether it is so at the port of a place
 abbrev pub IsFateAt : Fate → (tables : List AskedValue) → (place line : ℕ) → (is : Bool) → Type 0
@@ -130,12 +130,12 @@ pub record AddsDrawAt (tables : List AskedValue) (rule : PortRule) (rules : List
 -- - it is asked, and these rules before it draw of its cell and leave no ticket
 -- - it is never asked, and these rules before it are first without quota where it holds
 abbrev pub IsReason : (tables : List AskedValue) → (before : List PortRule) → PortRule → Reason → Type 0
-IsReason tables before rule NoTicket = IsSomewhere Asked tables rule.line × (has_no_ticket rule.rule.quota ≡ true)
+IsReason tables before rule NoTicket = IsSomewhere AskedRules tables rule.line × (has_no_ticket rule.rule.quota ≡ true)
 IsReason tables before rule (Drawn lines) =
-    IsSomewhere Asked tables rule.line × (has_no_ticket rule.rule.quota ≡ false)
-    × TellsFirst (AddsDrawAt tables rule before) (length before) [] lines.items
+    IsSomewhere AskedRules tables rule.line × (has_no_ticket rule.rule.quota ≡ false)
+    × PrintsFirst (AddsDrawAt tables rule before) (length before) [] lines.items
 IsReason tables before rule (Before lines) =
-    IsNowhere Asked tables rule.line × TellsFirst (AddsStopAt tables rule.line before) (length before) [] lines.items
+    IsNowhere AskedRules tables rule.line × PrintsFirst (AddsStopAt tables rule.line before) (length before) [] lines.items
 
 -- the rule of a place never matches, and that was noted with the reason
 pub record Notes (tables : List AskedValue) (rules : List PortRule) (place : ℕ) (rule : PortRule) (before after : List Note) : Type 0 where
@@ -154,4 +154,4 @@ pub record IsNotedAt (tables : List AskedValue) (rules : List PortRule) (place :
 pub record AreNotes (policy : PolicyValue) (notes : List Note) : Type 0 where
   pub tables : List AskedValue
   pub are_tables : AreTables policy 32 tables
-  pub noted : TellsFirst (IsNotedAt tables policy.rules) (length policy.rules) [] notes
+  pub noted : PrintsFirst (IsNotedAt tables policy.rules) (length policy.rules) [] notes

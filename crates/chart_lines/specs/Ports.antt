@@ -43,7 +43,7 @@ module _ (named : (port : ℕ) → Bool) where
   ports_for own = wanted_below (λ port. stands_for own port) 32
 
 -- if a chart of the port is made, this holds; if not, nothing changes
-abbrev pub AtPort : {T : Type 0} → (named : (port : ℕ) → Bool) → (tells : (port : ℕ) → (before after : T) → Type 0) → (port : ℕ)
+abbrev pub AtPort : {T : Type 0} → (named : (port : ℕ) → Bool) → (reports : (port : ℕ) → (before after : T) → Type 0) → (port : ℕ)
     → (before after : T) → Type 0
-AtPort {T} named tells port before after =
-    ((is_charted named port ≡ true) × tells port before after) ⊎ ((is_charted named port ≡ false) × (after ≡ before))
+AtPort {T} named reports port before after =
+    ((is_charted named port ≡ true) × reports port before after) ⊎ ((is_charted named port ≡ false) × (after ≡ before))

@@ -3,18 +3,18 @@ use Rattle.std.specs.Prelude.{◌≡◌, ℕ, All, false, true, List, get_or, ta
 use Rattle.regions.specs.Points.{HasCommand}
 use Rattle.regions.specs.declared.points.Point.{Point}
 use Rattle.charts.specs.Lines.{has_point, have_same_words}
-use Rattle.charts.specs.declared.lines.Line.{Line}
+use Rattle.charts.specs.declared.lines.ChartLine.{ChartLine}
 
 -- the line of that place, from 0 on, has the point, and some command does
-pub record IsWitness (lines : List Line) (place : ℕ) (p : Point) : Type 0 where
+pub record IsLineWitness (lines : List ChartLine) (place : ℕ) (p : Point) : Type 0 where
   pub command : HasCommand p
-  pub lies : (d : Line) → has_point (take place lines) (get_or lines place d) p ≡ true
+  pub lies : (d : ChartLine) → has_point (take place lines) (get_or lines place d) p ≡ true
 
 -- no command has a point of the line of that place
-abbrev pub HasNoCommand : List Line → (place : ℕ) → Type 0
-HasNoCommand lines place = (p : Point) → IsWitness lines place p → ⊥
+abbrev pub HasNoCommand : List ChartLine → (place : ℕ) → Type 0
+HasNoCommand lines place = (p : Point) → IsLineWitness lines place p → ⊥
 
 -- the first `count` lines have other words than that of a place
-abbrev pub AreOthers : List Line → (place : ℕ) → (count : ℕ) → Type 0
+abbrev pub AreOthers : List ChartLine → (place : ℕ) → (count : ℕ) → Type 0
 AreOthers lines place count =
-    (d : Line) → All (λ (other : Line). have_same_words other.region (get_or lines place d).region ≡ false) (take count lines)
+    (d : ChartLine) → All (λ (other : ChartLine). have_same_words other.region (get_or lines place d).region ≡ false) (take count lines)

@@ -10,13 +10,13 @@ use std::marker::Model;
 
 /// The rules of a table that are asked at a port, and their lines.
 #[derive(Drop)]
-pub struct Asked {
+pub struct AskedRules {
     port: u8,
     table: Table,
     lines: Vec<usize>,
 }
 
-impl Model for Asked {
+impl Model for AskedRules {
     ghost use Rattle.chart_lines.specs.AskedTables.{AskedValue, asked};
 
     ghost Value = { AskedValue };
@@ -24,18 +24,18 @@ impl Model for Asked {
     ghost view = { λ a. asked a.port a.table a.lines.items };
 }
 
-impl Asked {
+impl AskedRules {
     /// The rules that a table asks at a port.
     ///
     /// # Errors
     ///
     /// Only if memory is refused.
-    pub fn at(alloc: Global, policy: &Policy, port: u8) -> Result<Asked, AllocError>
+    pub fn at(alloc: Global, policy: &Policy, port: u8) -> Result<AskedRules, AllocError>
         ensures { IfOk result (λ at. at ≡ asked_at policy.now port) }
     {
         let table = policy.table_at(alloc, port)?;
         let lines = policy.lines_at(alloc, port)?;
-        Ok(Asked { port, table, lines })
+        Ok(AskedRules { port, table, lines })
     }
 
     /// The rules that are asked there, in order.

@@ -5,9 +5,9 @@ ghost use Rattle.charts.specs.Lines.{IsComparison, IsMap};
 
 use crate::boxes::address_parts;
 use crate::parts::{Part, Tables};
-use charts::{FIELDS, Line, comparison_cells, is_in_pieces, map_cells};
-use policy_table::{Rule, has_kind};
-use regions::{ByteSet, Kinds, Point, Region};
+use charts::{FIELDS, ChartLine, comparison_cells, is_in_pieces, map_cells};
+use policy_table::{Rule, agrees_with_kind};
+use regions::{ByteSet, Kinds, Point, PointRegion};
 use rmap::Kind;
 use std::alloc::{AllocError, Global};
 
@@ -30,8 +30,8 @@ fn are_same(ones: &[Part], others: &[Part]) -> bool {
 }
 
 /// The points whose fields except addresses are each one of either set.
-fn joined(one: &Region, other: &Region) -> Region {
-    Region {
+fn joined(one: &PointRegion, other: &PointRegion) -> PointRegion {
+    PointRegion {
         kinds: Kinds {
             read: one.kinds.read || other.kinds.read,
             write: one.kinds.write || other.kinds.write,
@@ -46,8 +46,8 @@ fn joined(one: &Region, other: &Region) -> Region {
 }
 
 /// The points whose fields except addresses are each one of both sets.
-fn narrowed(one: &Region, other: &Region) -> Region {
-    Region {
+fn narrowed(one: &PointRegion, other: &PointRegion) -> PointRegion {
+    PointRegion {
         kinds: Kinds {
             read: one.kinds.read && other.kinds.read,
             write: one.kinds.write && other.kinds.write,
@@ -64,12 +64,12 @@ fn narrowed(one: &Region, other: &Region) -> Region {
 /// Values of a field, and the parts for the points that have one of them.
 #[derive(Debug, Drop)]
 struct Group {
-    words: Region,
+    words: PointRegion,
     parts: Vec<Part>,
 }
 
 /// Adds values that have these parts: to the group with the same parts, or after all groups.
-fn add(groups: &mut Vec<Group>, words: &Region, parts: Vec<Part>) -> Result<(), AllocError> {
+fn add(groups: &mut Vec<Group>, words: &PointRegion, parts: Vec<Part>) -> Result<(), AllocError> {
     for group in groups.iter_mut() {
         if are_same(group.parts.as_slice(), parts.as_slice()) {
             group.words = joined(&group.words, words);
@@ -88,9 +88,9 @@ fn parts_of(alloc: Global, groups: &[Group]) -> Result<Vec<Part>, AllocError> {
     let mut all = Vec::new(alloc);
     for group in groups {
         for part in &group.parts {
-            let mut told = *part;
-            told.region = narrowed(&part.region, &group.words);
-            all.push(told)?;
+            let mut reported = *part;
+            reported.region = narrowed(&part.region, &group.words);
+            all.push(reported)?;
         }
     }
     Ok(all)
@@ -126,7 +126,7 @@ impl Field {
     }
 
     /// The values of the field that points of a region have.
-    fn of(self, region: &Region) -> &ByteSet {
+    fn of(self, region: &PointRegion) -> &ByteSet {
         match self {
             Field::Key => &region.keys,
             Field::Initiator => &region.initiators,
@@ -135,8 +135,8 @@ impl Field {
     }
 
     /// All points that have one of these values in the field.
-    fn words(self, bytes: &ByteSet) -> Region {
-        let mut words = Region::whole();
+    fn words(self, bytes: &ByteSet) -> PointRegion {
+        let mut words = PointRegion::whole();
         match self {
             Field::Key => words.keys = *bytes,
             Field::Initiator => words.initiators = *bytes,
@@ -197,7 +197,7 @@ fn field_parts(
     point: &Point,
     fields: &[Field],
 ) -> Result<Vec<Part>, AllocError> {
-    let [field, behind @ ..] = fields else {
+    let [field, following @ ..] = fields else {
         return address_parts(alloc, tables, rules, point);
     };
     let mut groups: Vec<Group> = Vec::new(alloc);
@@ -208,7 +208,7 @@ fn field_parts(
             tables,
             found.as_slice(),
             &field.set(point, *byte),
-            behind,
+            following,
         )?;
         add(&mut groups, &field.words(bytes), parts)?;
     }
@@ -219,12 +219,12 @@ fn field_parts(
 fn of_kind(alloc: Global, tables: &Tables<'_>, kind: Kind) -> Result<Vec<Rule>, AllocError> {
     let mut found = Vec::new(alloc);
     for rule in tables.old {
-        if has_kind(rule.kind, kind) {
+        if agrees_with_kind(rule.kind, kind) {
             found.push(*rule)?;
         }
     }
     for rule in tables.new {
-        if has_kind(rule.kind, kind) {
+        if agrees_with_kind(rule.kind, kind) {
             found.push(*rule)?;
         }
     }
@@ -232,8 +232,8 @@ fn of_kind(alloc: Global, tables: &Tables<'_>, kind: Kind) -> Result<Vec<Rule>, 
 }
 
 /// All points of a kind.
-fn kind_words(kind: Kind) -> Region {
-    let mut words = Region::whole();
+fn kind_words(kind: Kind) -> PointRegion {
+    let mut words = PointRegion::whole();
     words.kinds.read = kind == Kind::Read;
     words.kinds.write = kind == Kind::Write;
     words.kinds.rmw = kind == Kind::Rmw;
@@ -264,7 +264,7 @@ fn all_parts(alloc: Global, tables: &Tables<'_>) -> Result<Vec<Part>, AllocError
 }
 
 /// The points of both regions, with no first address after all last ones, and no last one before all first ones.
-fn within(region: &Region, asked: &Region) -> Region {
+fn within(region: &PointRegion, asked: &PointRegion) -> PointRegion {
     let mut own = region.both(asked);
     own.first = own.first.below(own.last.end);
     own.last = own.last.from(own.first.start);
@@ -272,11 +272,11 @@ fn within(region: &Region, asked: &Region) -> Region {
 }
 
 /// The lines of the parts that are reported.
-fn lines(alloc: Global, tables: &Tables<'_>) -> Result<Vec<Line>, AllocError> {
+fn lines(alloc: Global, tables: &Tables<'_>) -> Result<Vec<ChartLine>, AllocError> {
     let mut lines = Vec::new(alloc);
     for part in &all_parts(alloc, tables)? {
-        if part.label.told {
-            lines.push(Line {
+        if part.label.reported {
+            lines.push(ChartLine {
                 region: within(&part.region, tables.asked),
                 rest: part.rest,
                 point: part.point,
@@ -295,7 +295,7 @@ fn lines(alloc: Global, tables: &Tables<'_>) -> Result<Vec<Line>, AllocError> {
 /// # Errors
 ///
 /// Only if memory is refused.
-pub fn map_of(alloc: Global, asked: &Region, rules: &[Rule]) -> Result<Vec<Line>, AllocError>
+pub fn map_of(alloc: Global, asked: &PointRegion, rules: &[Rule]) -> Result<Vec<ChartLine>, AllocError>
     ensures { IfOk result (λ lines. IsMap asked.now rules.now lines.items) }
 {
     let all = true;
@@ -324,10 +324,10 @@ pub fn map_of(alloc: Global, asked: &Region, rules: &[Rule]) -> Result<Vec<Line>
 /// Only if memory is refused.
 pub fn comparison_of(
     alloc: Global,
-    asked: &Region,
+    asked: &PointRegion,
     old: &[Rule],
     new: &[Rule],
-) -> Result<Vec<Line>, AllocError>
+) -> Result<Vec<ChartLine>, AllocError>
     ensures { IfOk result (λ lines. IsComparison asked.now old.now new.now lines.items) }
 {
     let all = false;

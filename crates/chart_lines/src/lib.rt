@@ -16,10 +16,10 @@ mod ports;
 mod rows;
 mod witnesses;
 
-pub use asked::Asked;
+pub use asked::AskedRules;
 pub use comparing::difference_rows;
 pub use drawing::{comparison_of, map_of};
 pub use mapping::map_rows;
 pub use never::{Note, Reason, never_matching};
 pub use ports::{PORTS, Tables};
-pub use rows::{Change, Row, Told};
+pub use rows::{RowChange, ChartRow, RowContent};

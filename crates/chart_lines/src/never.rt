@@ -4,11 +4,11 @@ ghost use Rattle.std.specs.Prelude.{◌≡◌, ◌<◌, ◌++◌, ◌∷◌, [],
 ghost use Rattle.policy_table.specs.PortTables.{is_named};
 ghost use Rattle.policy_table.specs.declared.port_rules.PortRule.{PortRule};
 ghost use Rattle.chart_lines.specs.AskedTables.{AskedValue, asked_at};
-ghost use Rattle.chart_lines.specs.Never.{AddsDraw, AddsDrawAt, AddsStop, AddsStopAt, AreNotes, AreTables, IsDraw, IsFate, IsFateAt, IsNoDraw, IsNoFate, IsNotedAt, IsNowhere, IsReason, IsSomewhere, has_no_ticket, place_of, share_cell};
+ghost use Rattle.chart_lines.specs.Never.{AddsDraw, AddsDrawAt, AddsStop, AddsStopAt, AreNotes, AreTables, IsDraw, IsFate, IsFateAt, IsNoDraw, IsNoFate, IsNotedAt, IsNowhere, IsReason, IsSomewhere, has_no_ticket, asked_place_of, share_cell};
 ghost use Rattle.chart_lines.specs.Ports.{AtPort};
-ghost use Rattle.chart_lines.specs.Telling.{TellsFirst};
+ghost use Rattle.chart_lines.specs.Reporting.{PrintsFirst};
 
-use crate::asked::Asked;
+use crate::asked::AskedRules;
 use crate::ports::{PORTS, Tables};
 use charts::{is_asked, is_asked_where, is_of_one_cell, is_stopped_by, never_matches};
 use policy_table::{Policy, PortRule, Quota};
@@ -20,7 +20,7 @@ pub(crate) enum Fate {
     /// It decides on some command.
     Matching,
     /// It holds at some point at which no rule without quota before it does.
-    Asked,
+    AskedRules,
     /// It holds at some point at which the rule of this line is the first without quota.
     Stopped(usize),
     /// It holds at some point at which the rule of this line is asked.
@@ -49,8 +49,8 @@ pub struct Note {
 }
 
 /// The place of the rule of a line, from 0 on.
-fn place_of(lines: &[usize], line: usize) -> Option<usize>
-    ensures { result ≡ place_of line lines.now }
+fn asked_place_of(lines: &[usize], line: usize) -> Option<usize>
+    ensures { result ≡ asked_place_of line lines.now }
 {
     for place in 0..lines.len() {
         if lines[place] == line {
@@ -61,20 +61,20 @@ fn place_of(lines: &[usize], line: usize) -> Option<usize>
 }
 
 /// Whether a fact holds of the rule of a line at a port.
-fn is_fate(at: &Asked, fate: Fate, line: usize) -> bool
+fn is_fate(at: &AskedRules, fate: Fate, line: usize) -> bool
     ensures { MatchBool result (IsFate fate at.now line) (IsNoFate fate at.now line) }
 {
-    let Some(place) = place_of(at.lines(), line) else {
+    let Some(place) = asked_place_of(at.lines(), line) else {
         return false;
     };
     match fate {
         Fate::Matching => !never_matches(at.rules(), place),
-        Fate::Asked => is_asked(at.rules(), place),
-        Fate::Stopped(stop) => match place_of(at.lines(), stop) {
+        Fate::AskedRules => is_asked(at.rules(), place),
+        Fate::Stopped(stop) => match asked_place_of(at.lines(), stop) {
             Some(first) => is_stopped_by(at.rules(), first, place),
             None => false,
         },
-        Fate::Met(other) => match place_of(at.lines(), other) {
+        Fate::Met(other) => match asked_place_of(at.lines(), other) {
             Some(asked) => is_asked_where(at.rules(), asked, place),
             None => false,
         },
@@ -82,7 +82,7 @@ fn is_fate(at: &Asked, fate: Fate, line: usize) -> bool
 }
 
 /// The table of a place.
-fn table_at(tables: &[Asked], place: usize) -> &Asked
+fn table_at(tables: &[AskedRules], place: usize) -> &AskedRules
     requires { place < length tables.now }
     ensures { (d : AskedValue) → get_or tables.now place d ≡ result.now }
 {
@@ -90,7 +90,7 @@ fn table_at(tables: &[Asked], place: usize) -> &Asked
 }
 
 /// Whether it is so at the port of a place.
-fn is_fate_at(tables: &[Asked], place: usize, fate: Fate, line: usize) -> bool
+fn is_fate_at(tables: &[AskedRules], place: usize, fate: Fate, line: usize) -> bool
     requires { place < length tables.now }
     ensures { IsFateAt fate tables.now place line result }
 {
@@ -98,7 +98,7 @@ fn is_fate_at(tables: &[Asked], place: usize, fate: Fate, line: usize) -> bool
 }
 
 /// Whether it is so at some port.
-fn is_somewhere(tables: &[Asked], fate: Fate, line: usize) -> bool
+fn is_somewhere(tables: &[AskedRules], fate: Fate, line: usize) -> bool
     ensures { MatchBool result (IsSomewhere fate tables.now line)
         (IsNowhere fate tables.now line) }
 {
@@ -113,7 +113,7 @@ fn is_somewhere(tables: &[Asked], fate: Fate, line: usize) -> bool
 /// Adds the line of a rule, if the rule is the first without quota at some point at which that of a line holds.
 fn add_stop(
     stops: &mut Vec<usize>,
-    tables: &[Asked],
+    tables: &[AskedRules],
     line: usize,
     stop: usize,
 ) -> Result<(), AllocError>
@@ -136,7 +136,7 @@ fn rule_at(rules: &[PortRule], place: usize) -> &PortRule
 /// The same of the rule of a place.
 fn add_stop_at(
     stops: &mut Vec<usize>,
-    tables: &[Asked],
+    tables: &[AskedRules],
     line: usize,
     before: &[PortRule],
     place: usize,
@@ -152,11 +152,11 @@ fn add_stop_at(
 /// The lines of the rules of these that are the first without quota where the rule of a line holds.
 fn stops_of(
     alloc: Global,
-    tables: &[Asked],
+    tables: &[AskedRules],
     before: &[PortRule],
     line: usize,
 ) -> Result<Vec<usize>, AllocError>
-    ensures { IfOk result (λ stops. TellsFirst (AddsStopAt tables.now line before.now)
+    ensures { IfOk result (λ stops. PrintsFirst (AddsStopAt tables.now line before.now)
         (length before.now) [] stops.items) }
 {
     let mut stops = Vec::new(alloc);
@@ -190,7 +190,7 @@ fn share_cell(one: Option<Quota>, other: Option<Quota>) -> bool
 }
 
 /// Whether a rule draws of the cell of another at some point at which that holds.
-fn is_draw(tables: &[Asked], rule: &PortRule, draw: &PortRule) -> bool
+fn is_draw(tables: &[AskedRules], rule: &PortRule, draw: &PortRule) -> bool
     ensures { MatchBool result (IsDraw tables.now rule.now draw.now)
         (IsNoDraw tables.now rule.now draw.now) }
 {
@@ -201,7 +201,7 @@ fn is_draw(tables: &[Asked], rule: &PortRule, draw: &PortRule) -> bool
 /// Adds the line of a rule, if it draws of the cell of another at some point at which that holds.
 fn add_draw(
     draws: &mut Vec<usize>,
-    tables: &[Asked],
+    tables: &[AskedRules],
     rule: &PortRule,
     draw: &PortRule,
 ) -> Result<(), AllocError>
@@ -217,7 +217,7 @@ fn add_draw(
 /// The same of the rule of a place.
 fn add_draw_at(
     draws: &mut Vec<usize>,
-    tables: &[Asked],
+    tables: &[AskedRules],
     rule: &PortRule,
     before: &[PortRule],
     place: usize,
@@ -233,11 +233,11 @@ fn add_draw_at(
 /// The lines of the rules of these that draw of the cell of a rule, where that holds.
 fn draws_of(
     alloc: Global,
-    tables: &[Asked],
+    tables: &[AskedRules],
     before: &[PortRule],
     rule: &PortRule,
 ) -> Result<Vec<usize>, AllocError>
-    ensures { IfOk result (λ draws. TellsFirst (AddsDrawAt tables.now rule.now before.now)
+    ensures { IfOk result (λ draws. PrintsFirst (AddsDrawAt tables.now rule.now before.now)
         (length before.now) [] draws.items) }
 {
     let mut draws = Vec::new(alloc);
@@ -250,13 +250,13 @@ fn draws_of(
 /// Why a rule never matches, after these rules.
 fn reason_of(
     alloc: Global,
-    tables: &[Asked],
+    tables: &[AskedRules],
     before: &[PortRule],
     rule: &PortRule,
 ) -> Result<Reason, AllocError>
     ensures { IfOk result (IsReason tables.now before.now rule.now) }
 {
-    if !is_somewhere(tables, Fate::Asked, rule.line) {
+    if !is_somewhere(tables, Fate::AskedRules, rule.line) {
         return Ok(Reason::Before(stops_of(alloc, tables, before, rule.line)?));
     }
     if has_no_ticket(rule.rule.quota) {
@@ -269,7 +269,7 @@ fn reason_of(
 fn add_note(
     notes: &mut Vec<Note>,
     alloc: Global,
-    tables: &[Asked],
+    tables: &[AskedRules],
     rules: &[PortRule],
     place: usize,
 ) -> Result<(), AllocError>
@@ -290,7 +290,7 @@ fn add_note(
 
 /// Adds what a table asks at a port, if a chart of it is made.
 fn add_table(
-    tables: &mut Vec<Asked>,
+    tables: &mut Vec<AskedRules>,
     alloc: Global,
     policy: &Policy,
     port: u8,
@@ -300,13 +300,13 @@ fn add_table(
         tables.old.items tables.new.items) }
 {
     if Tables::One(policy).chart_port(port) {
-        tables.push(Asked::at(alloc, policy, port)?)?;
+        tables.push(AskedRules::at(alloc, policy, port)?)?;
     }
     Ok(())
 }
 
 /// The rules that a table asks at the ports of which charts are made.
-fn tables_of(alloc: Global, policy: &Policy) -> Result<Vec<Asked>, AllocError>
+fn tables_of(alloc: Global, policy: &Policy) -> Result<Vec<AskedRules>, AllocError>
     ensures { IfOk result (λ tables. AreTables policy.now 32 tables.items) }
 {
     let mut tables = Vec::new(alloc);
@@ -317,8 +317,8 @@ fn tables_of(alloc: Global, policy: &Policy) -> Result<Vec<Asked>, AllocError>
 }
 
 /// Which of these rules never match.
-fn notes_of(alloc: Global, tables: &[Asked], rules: &[PortRule]) -> Result<Vec<Note>, AllocError>
-    ensures { IfOk result (λ notes. TellsFirst (IsNotedAt tables.now rules.now)
+fn notes_of(alloc: Global, tables: &[AskedRules], rules: &[PortRule]) -> Result<Vec<Note>, AllocError>
+    ensures { IfOk result (λ notes. PrintsFirst (IsNotedAt tables.now rules.now)
         (length rules.now) [] notes.items) }
 {
     let mut notes = Vec::new(alloc);

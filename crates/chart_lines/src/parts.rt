@@ -1,18 +1,18 @@
 //! The label of a point, and parts of a chart.
 
 ghost use Rattle.std.specs.Prelude.{◌≡◌, false};
-ghost use Rattle.charts.specs.Points.{AreAlike};
+ghost use Rattle.charts.specs.Points.{DecideAlike};
 
 use charts::{alike, holds_at};
 use policy_table::Rule;
-use regions::{Point, Region};
+use regions::{Point, PointRegion};
 
 /// The report on a point: the rules that the tables ask there, or nothing. Each rule has a bit by its place, which is
 /// enough for a table that fits into an image.
 #[derive(Clone, Copy, Debug, PartialEq, Eq)]
 pub(crate) struct Label {
     /// Whether the point is reported.
-    pub(crate) told: bool,
+    pub(crate) reported: bool,
     old: u128,
     new: u128,
 }
@@ -20,10 +20,10 @@ pub(crate) struct Label {
 impl Label {
     /// That nothing is reported.
     fn nothing() -> Label
-        ensures { result.told ≡ false }
+        ensures { result.reported ≡ false }
     {
         Label {
-            told: false,
+            reported: false,
             old: 0,
             new: 0,
         }
@@ -34,7 +34,7 @@ impl Label {
 /// differ.
 #[derive(Clone, Copy)]
 pub(crate) struct Tables<'a> {
-    pub(crate) asked: &'a Region,
+    pub(crate) asked: &'a PointRegion,
     pub(crate) old: &'a [Rule],
     pub(crate) new: &'a [Rule],
     pub(crate) all: bool,
@@ -59,13 +59,13 @@ fn asked_bits(rules: &[Rule], point: &Point) -> u128 {
 impl Tables<'_> {
     /// The label of a point.
     pub(crate) fn label(&self, point: &Point) -> Label
-        ensures { result.told ≡ false → AreAlike self.now.old.now self.now.new.now point.now }
+        ensures { result.reported ≡ false → DecideAlike self.now.old.now self.now.new.now point.now }
     {
         if !self.all && alike(self.old, self.new, point) {
             return Label::nothing();
         }
         Label {
-            told: true,
+            reported: true,
             old: asked_bits(self.old, point),
             new: asked_bits(self.new, point),
         }
@@ -84,7 +84,7 @@ impl Tables<'_> {
 #[derive(Clone, Copy, Debug)]
 pub(crate) struct Part {
     /// The points, or those of which it has the rest.
-    pub(crate) region: Region,
+    pub(crate) region: PointRegion,
     /// Whether it has only the points that lie in none of the parts before.
     pub(crate) rest: bool,
     /// Their label.

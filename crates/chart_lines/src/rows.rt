@@ -2,20 +2,20 @@
 
 ghost use Rattle.std.specs.Prelude.{◌≡◌, ◌≢◌, ◌≤◌, ◌<◌, ◌++◌, ◌∷◌, [], All, IfOk, IfSome, MatchBool, MatchOption, None, OnOk, Some, get_or, length, slice_set, take};
 ghost use Rattle.regions.specs.Points.{HasCommand};
-ghost use Rattle.differences.specs.declared.courses.Step.{Step};
+ghost use Rattle.differences.specs.declared.decision_paths.AskedRule.{AskedRule};
 ghost use Rattle.chart_lines.specs.Begun.{SayOther};
-ghost use Rattle.chart_lines.specs.Rows.{AddsRow, EndSame, RowValue, SaysAt, WantSame, line_of, on_line, on_lines, row_of, told};
+ghost use Rattle.chart_lines.specs.Rows.{AddsRow, EndSame, RowValue, SaysAt, WantSame, rule_line_of, on_line, rules_on_lines, row_of, reported};
 
-use charts::Line;
-use differences::{Repeats, Sign, Step};
+use charts::ChartLine;
+use differences::{Repeats, Sign, AskedRule};
 use policy_table::Rule;
-use regions::{Point, Region};
+use regions::{Point, PointRegion};
 use std::alloc::{AllocError, Global};
 use std::marker::Model;
 
 /// How a new table differs from an old one where a row holds.
 #[derive(Clone, Copy, Debug, PartialEq, Eq)]
-pub struct Change {
+pub struct RowChange {
     /// In which commands pass.
     pub sign: Sign,
     /// How often a command must come until its verdict is another.
@@ -26,33 +26,33 @@ pub struct Change {
 
 /// What a row says.
 #[derive(Debug, Drop)]
-pub struct Told {
-    region: Region,
+pub struct RowContent {
+    region: PointRegion,
     rest: bool,
-    course: Vec<Step>,
-    new: Vec<Step>,
-    change: Option<Change>,
+    decision_path: Vec<AskedRule>,
+    new: Vec<AskedRule>,
+    change: Option<RowChange>,
 }
 
-impl Model for Told {
-    ghost use Rattle.chart_lines.specs.Rows.{HasPoint, ToldValue, told};
+impl Model for RowContent {
+    ghost use Rattle.chart_lines.specs.Rows.{HasPoint, RowContentValue, reported};
 
-    ghost Value = { ToldValue };
+    ghost Value = { RowContentValue };
 
-    ghost view = { λ t. told t.region t.rest t.course.items t.new.items t.change };
+    ghost view = { λ t. reported t.region t.rest t.decision_path.items t.new.items t.change };
 
     ghost invariant = { λ t. HasPoint t.change };
 }
 
-impl Told {
+impl RowContent {
     /// The content of a row of a map: the words of a line, and the rules that the table asks, by their lines.
-    pub(crate) fn of_map(alloc: Global, line: &Line, course: Vec<Step>) -> Told
-        ensures { result ≡ told line.now.region line.now.rest course.items [] None }
+    pub(crate) fn of_map(alloc: Global, line: &ChartLine, decision_path: Vec<AskedRule>) -> RowContent
+        ensures { result ≡ reported line.now.region line.now.rest decision_path.items [] None }
     {
-        Told {
+        RowContent {
             region: line.region,
             rest: line.rest,
-            course,
+            decision_path,
             new: Vec::new(alloc),
             change: None,
         }
@@ -60,21 +60,21 @@ impl Told {
 
     /// The content of a row of a comparison: the words of a line, the rules that each table asks, and how the new one
     /// differs.
-    pub(crate) fn of_two(line: &Line, course: Vec<Step>, new: Vec<Step>, change: Change) -> Told
+    pub(crate) fn of_two(line: &ChartLine, decision_path: Vec<AskedRule>, new: Vec<AskedRule>, change: RowChange) -> RowContent
         requires { HasCommand change.point }
-        ensures { result ≡ told line.now.region line.now.rest course.items new.items (Some change) }
+        ensures { result ≡ reported line.now.region line.now.rest decision_path.items new.items (Some change) }
     {
-        Told {
+        RowContent {
             region: line.region,
             rest: line.rest,
-            course,
+            decision_path,
             new,
             change: Some(change),
         }
     }
 
     /// The words of its line.
-    pub fn region(&self) -> &Region
+    pub fn region(&self) -> &PointRegion
         ensures { result.now ≡ self.now.region }
     {
         &self.region
@@ -88,21 +88,21 @@ impl Told {
     }
 
     /// The rules that the table asks, or the old one of two; their numbers are those of their lines.
-    pub fn course(&self) -> &[Step]
-        ensures { result.now ≡ self.now.course }
+    pub fn decision_path(&self) -> &[AskedRule]
+        ensures { result.now ≡ self.now.decision_path }
     {
-        self.course.as_slice()
+        self.decision_path.as_slice()
     }
 
     /// The rules that the new table asks; none in a map.
-    pub fn new_course(&self) -> &[Step]
+    pub fn new_course(&self) -> &[AskedRule]
         ensures { result.now ≡ self.now.new }
     {
         self.new.as_slice()
     }
 
     /// In a comparison, how the new table differs, with a point that some command has.
-    pub fn change(&self) -> Option<Change>
+    pub fn change(&self) -> Option<RowChange>
         ensures change { result ≡ self.now.change }
         ensures command { IfSome result (λ change. HasCommand change.point) }
     {
@@ -110,26 +110,26 @@ impl Told {
     }
 
     /// Whether two rows say the same.
-    fn is(&self, other: &Told) -> bool
+    fn is(&self, other: &RowContent) -> bool
         ensures { MatchBool result (self.now ≡ other.now) (self.now ≢ other.now) }
     {
         self.region == other.region
             && (self.rest == other.rest
                 && (is_same_change(self.change, other.change)
-                    && (are_same(self.course(), other.course())
+                    && (are_same(self.decision_path(), other.decision_path())
                         && are_same(self.new_course(), other.new_course()))))
     }
 }
 
 /// Whether two changes are the same.
-fn is_same(one: &Change, other: &Change) -> bool
+fn is_same(one: &RowChange, other: &RowChange) -> bool
     ensures { MatchBool result (one.now ≡ other.now) (one.now ≢ other.now) }
 {
     one.sign == other.sign && (one.repeats == other.repeats && one.point == other.point)
 }
 
 /// Whether two changes are the same, or none is there.
-fn is_same_change(one: Option<Change>, other: Option<Change>) -> bool
+fn is_same_change(one: Option<RowChange>, other: Option<RowChange>) -> bool
     ensures { MatchBool result (one ≡ other) (one ≢ other) }
 {
     match (one, other) {
@@ -140,9 +140,9 @@ fn is_same_change(one: Option<Change>, other: Option<Change>) -> bool
 }
 
 /// The step of a place.
-fn step_at(steps: &[Step], place: usize) -> Step
+fn step_at(steps: &[AskedRule], place: usize) -> AskedRule
     requires { place < length steps.now }
-    ensures { (d : Step) → get_or steps.now place d ≡ result }
+    ensures { (d : AskedRule) → get_or steps.now place d ≡ result }
 {
     steps[place]
 }
@@ -172,17 +172,17 @@ fn is_same_rule(one: &Rule, other: &Rule) -> bool
 }
 
 /// Whether two steps are the same.
-fn is_same_step(one: &Step, other: &Step) -> bool
+fn is_same_step(one: &AskedRule, other: &AskedRule) -> bool
     ensures { MatchBool result (one.now ≡ other.now) (one.now ≢ other.now) }
 {
     one.number == other.number && is_same_rule(&one.rule, &other.rule)
 }
 
 /// Whether the steps of a place are the same.
-fn is_same_at(one: &[Step], other: &[Step], place: usize) -> bool
+fn is_same_at(one: &[AskedRule], other: &[AskedRule], place: usize) -> bool
     requires one { place < length one.now }
     requires other { place < length other.now }
-    ensures { (d : Step) → MatchBool result (get_or one.now place d ≡ get_or other.now place d)
+    ensures { (d : AskedRule) → MatchBool result (get_or one.now place d ≡ get_or other.now place d)
         (get_or one.now place d ≢ get_or other.now place d) }
 {
     let own = step_at(one, place);
@@ -192,7 +192,7 @@ fn is_same_at(one: &[Step], other: &[Step], place: usize) -> bool
 
 /// Whether two courses have the same rules, of the same lines.
 #[tactic(auto, using(crate::proofs::Joining::same_whole, crate::proofs::Joining::other_length))]
-fn are_same(one: &[Step], other: &[Step]) -> bool
+fn are_same(one: &[AskedRule], other: &[AskedRule]) -> bool
     ensures { MatchBool result (one.now ≡ other.now) (one.now ≢ other.now) }
 {
     if one.len() != other.len() {
@@ -208,20 +208,20 @@ fn are_same(one: &[Step], other: &[Step]) -> bool
 
 /// A row of a chart: what it says, and at which ports.
 #[derive(Debug, Drop)]
-pub struct Row {
+pub struct ChartRow {
     ports: Vec<u8>,
-    told: Told,
+    reported: RowContent,
 }
 
-impl Model for Row {
+impl Model for ChartRow {
     ghost use Rattle.chart_lines.specs.Rows.{RowValue, row_of};
 
     ghost Value = { RowValue };
 
-    ghost view = { λ r. row_of r.ports.items r.told };
+    ghost view = { λ r. row_of r.ports.items r.reported };
 }
 
-impl Row {
+impl ChartRow {
     /// The ports.
     pub fn ports(&self) -> &[u8]
         ensures { result.now ≡ self.now.ports }
@@ -230,37 +230,37 @@ impl Row {
     }
 
     /// What the row says.
-    pub fn told(&self) -> &Told
-        ensures { result.now ≡ self.now.told }
+    pub fn reported(&self) -> &RowContent
+        ensures { result.now ≡ self.now.reported }
     {
-        &self.told
+        &self.reported
     }
 }
 
 /// The line of the rule of this number, from 1, if rules are in these lines; 0 if there is none.
-fn line_of(lines: &[usize], number: usize) -> usize
-    ensures { result ≡ line_of lines.now number }
+fn rule_line_of(lines: &[usize], number: usize) -> usize
+    ensures { result ≡ rule_line_of lines.now number }
 {
     lines.get(number.saturating_sub(1)).copied().unwrap_or(0)
 }
 
 /// A rule by its line.
-fn on_line(lines: &[usize], step: &Step) -> Step
+fn on_line(lines: &[usize], step: &AskedRule) -> AskedRule
     ensures { result ≡ on_line lines.now step.now }
 {
-    Step {
-        number: line_of(lines, step.number),
+    AskedRule {
+        number: rule_line_of(lines, step.number),
         rule: step.rule,
     }
 }
 
 /// Rules that are asked, by their lines.
-pub(crate) fn on_lines(
+pub(crate) fn rules_on_lines(
     alloc: Global,
     lines: &[usize],
-    steps: &[Step],
-) -> Result<Vec<Step>, AllocError>
-    ensures { IfOk result (λ found. found.items ≡ on_lines lines.now steps.now) }
+    steps: &[AskedRule],
+) -> Result<Vec<AskedRule>, AllocError>
+    ensures { IfOk result (λ found. found.items ≡ rules_on_lines lines.now steps.now) }
 {
     let mut found = Vec::new(alloc);
     for step in steps {
@@ -270,7 +270,7 @@ pub(crate) fn on_lines(
 }
 
 /// The row of a place.
-fn row_at(rows: &[Row], place: usize) -> &Row
+fn row_at(rows: &[ChartRow], place: usize) -> &ChartRow
     requires { place < length rows.now }
     ensures { (d : RowValue) → get_or rows.now place d ≡ result.now }
 {
@@ -278,22 +278,22 @@ fn row_at(rows: &[Row], place: usize) -> &Row
 }
 
 /// Whether the row of a place says this.
-fn says(rows: &[Row], place: usize, told: &Told) -> bool
+fn says(rows: &[ChartRow], place: usize, reported: &RowContent) -> bool
     requires { place < length rows.now }
-    ensures { SaysAt rows.now place told.now result }
+    ensures { SaysAt rows.now place reported.now result }
 {
     let row = row_at(rows, place);
-    row.told().is(told)
+    row.reported().is(reported)
 }
 
 /// The place of a row that says this.
-fn place_of(rows: &[Row], told: &Told) -> Option<usize>
-    ensures { MatchOption result (All (λ (row : RowValue). row.told ≢ told.now) rows.now)
+fn asked_place_of(rows: &[ChartRow], reported: &RowContent) -> Option<usize>
+    ensures { MatchOption result (All (λ (row : RowValue). row.reported ≢ reported.now) rows.now)
         (λ place. (place < length rows.now)
-        × ((d : RowValue) → (get_or rows.now place d).told ≡ told.now)) }
+        × ((d : RowValue) → (get_or rows.now place d).reported ≡ reported.now)) }
 {
     for place in 0..rows.len() {
-        if says(rows, place, told) {
+        if says(rows, place, reported) {
             return Some(place);
         }
     }
@@ -301,26 +301,26 @@ fn place_of(rows: &[Row], told: &Told) -> Option<usize>
 }
 
 /// Adds ports to the row of a place.
-fn join(rows: &mut Vec<Row>, place: usize, ports: &[u8]) -> Result<(), AllocError>
+fn join(rows: &mut Vec<ChartRow>, place: usize, ports: &[u8]) -> Result<(), AllocError>
     requires { place < length rows.old.items }
     ensures { OnOk result ((d : RowValue) → rows.new.items ≡ slice_set rows.old.items place
-        (row_of ((get_or rows.old.items place d).ports ++ ports.now) (get_or rows.old.items place d).told)) }
+        (row_of ((get_or rows.old.items place d).ports ++ ports.now) (get_or rows.old.items place d).reported)) }
 {
     let row = &mut rows[place];
     row.ports.extend_from_slice(ports)
 }
 
 /// Adds a row.
-fn push_row(rows: &mut Vec<Row>, alloc: Global, ports: &[u8], told: Told) -> Result<(), AllocError>
-    ensures { OnOk result (rows.new.items ≡ rows.old.items ++ row_of ports.now told ∷ []) }
+fn push_row(rows: &mut Vec<ChartRow>, alloc: Global, ports: &[u8], reported: RowContent) -> Result<(), AllocError>
+    ensures { OnOk result (rows.new.items ≡ rows.old.items ++ row_of ports.now reported ∷ []) }
 {
     let ports = Vec::from_slice(alloc, ports)?;
-    rows.push(Row { ports, told })?;
+    rows.push(ChartRow { ports, reported })?;
     Ok(())
 }
 
 /// The first `count` rows.
-fn first_rows(rows: &[Row], count: usize) -> &[Row]
+fn first_rows(rows: &[ChartRow], count: usize) -> &[ChartRow]
     requires { count ≤ length rows.now }
     ensures { result.now ≡ take count rows.now }
 {
@@ -330,17 +330,17 @@ fn first_rows(rows: &[Row], count: usize) -> &[Row]
 /// Adds what a row says at these ports: to the row that says it, or in one row more if none does. From a number on no
 /// row says it, so that the rows of one chart are not compared with each other.
 pub(crate) fn add_row(
-    rows: &mut Vec<Row>,
+    rows: &mut Vec<ChartRow>,
     alloc: Global,
     ports: &[u8],
-    told: Told,
+    reported: RowContent,
     from: usize,
 ) -> Result<(), AllocError>
-    requires { SayOther told from rows.old.items }
-    ensures { OnOk result (AddsRow ports.now told rows.old.items rows.new.items) }
+    requires { SayOther reported from rows.old.items }
+    ensures { OnOk result (AddsRow ports.now reported rows.old.items rows.new.items) }
 {
-    match place_of(first_rows(rows.as_slice(), from), &told) {
+    match asked_place_of(first_rows(rows.as_slice(), from), &reported) {
         Some(place) => join(rows, place, ports),
-        None => push_row(rows, alloc, ports, told),
+        None => push_row(rows, alloc, ports, reported),
     }
 }

@@ -155,4 +155,4 @@ admitted c w is_header bytes ends none =
     not_more n t = grind (arith, nat_tests)
 
 pub decide_alike : NodesDecideAlike
-decide_alike asked old new same c w is_header bytes ends none lies told one = same (header c.front c.tail) (admitted c w is_header bytes ends none) lies told one
+decide_alike asked old new same c w is_header bytes ends none lies reported one = same (header c.front c.tail) (admitted c w is_header bytes ends none) lies reported one

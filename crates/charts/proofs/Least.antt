@@ -6,14 +6,14 @@ use Rattle.std.proofs.lemmas.List.Elements.{All-cons, All-head, All-nil, All-tai
 use Rattle.std.proofs.lemmas.Bool.{and_parts}
 use Rattle.machine.specs.declared.calls.Call.{Call}
 use Rattle.rmap.specs.Verdict.{verdict_number}
-use Rattle.policy_table.specs.Meaning.{AreWords, draw, ruled}
+use Rattle.policy_table.specs.Meaning.{AreAnswerWords, draw, ruled}
 use Rattle.policy_table.specs.declared.rules.Quota.{Quota}
 use Rattle.policy_table.specs.declared.rules.Rule.{Rule}
 use Rattle.charts.specs.Alike.{said}
-use Rattle.charts.specs.Tickets.{AreTickets, AreTicketsFrom, IsBelow, IsFrom, TicketsFollow, after, is_of, least_from, least_of, raised}
+use Rattle.charts.specs.Tickets.{AreTickets, AreTicketsFrom, IsTicketBelow, IsFrom, TicketsFollow, after, is_of, least_from, least_of, raised}
 
-pub none_told : (least : ℕ → ℕ → ℕ) → AreTicketsFrom least []
-none_told least = record { from = All-nil (IsFrom least); tickets = tt }
+pub none_answered : (least : ℕ → ℕ → ℕ) → AreTicketsFrom least []
+none_answered least = record { from = All-nil (IsFrom least); tickets = tt }
 
 pub same_number : (a b : ℕ) → (a == b) ≡ true → a ≡ b
 same_number a b e = grind (arith, nat_tests)
@@ -47,13 +47,13 @@ from_after least q t call le h = by_cell (is_of q call.question.map call.questio
     by_cell true e h = let same = least_there least q call.question.map call.question.key e in omega (arith, same, le, h)
     by_cell false e h = h
 
-below_after : (least : ℕ → ℕ → ℕ) (q : Quota) (t : ℕ) (call : Call) → IsFrom (after least q t) call → IsBelow (draw q t) call
+below_after : (least : ℕ → ℕ → ℕ) (q : Quota) (t : ℕ) (call : Call) → IsFrom (after least q t) call → IsTicketBelow (draw q t) call
 below_after least q t call h m c =
     let there : is_of q call.question.map call.question.key ≡ true = of_cell q call.question.map call.question.key m c in
     let fits : suc t ≤ call.answer = subst (λ (b : Bool). (if b then suc t else least call.question.map call.question.key) ≤ call.answer) there h in
     omega (arith, fits)
 
-after_of : (least : ℕ → ℕ → ℕ) (q : Quota) (t : ℕ) (call : Call) → IsFrom least call → IsBelow (draw q t) call → IsFrom (after least q t) call
+after_of : (least : ℕ → ℕ → ℕ) (q : Quota) (t : ℕ) (call : Call) → IsFrom least call → IsTicketBelow (draw q t) call → IsFrom (after least q t) call
 after_of least q t call from below = by_cell (is_of q call.question.map call.question.key) refl
   where
     by_cell : (b : Bool) → is_of q call.question.map call.question.key ≡ b → (if b then suc t else least call.question.map call.question.key) ≤ call.answer
@@ -62,23 +62,23 @@ after_of least q t call from below = by_cell (is_of q call.question.map call.que
 
 -- ---- one draw and those after it
 
-pub told_first : (least : ℕ → ℕ → ℕ) (q : Quota) (t : ℕ) (calls : List Call) → least q.map q.cell ≤ t → AreTicketsFrom (after least q t) calls → AreTicketsFrom least (draw q t ∷ calls)
-told_first least q t calls le rest = record {
+pub answered_first : (least : ℕ → ℕ → ℕ) (q : Quota) (t : ℕ) (calls : List Call) → least q.map q.cell ≤ t → AreTicketsFrom (after least q t) calls → AreTicketsFrom least (draw q t ∷ calls)
+answered_first least q t calls le rest = record {
   from = All-cons (IsFrom least) (draw q t) calls le (λ k d lt. from_after least q t (get_or calls k d) le (rest.from k d lt));
   tickets = ((λ k d lt. below_after least q t (get_or calls k d) (rest.from k d lt)), rest.tickets);
 }
 
 pub first_from : (least : ℕ → ℕ → ℕ) (q : Quota) (t : ℕ) (calls : List Call) → AreTicketsFrom least (draw q t ∷ calls) → least q.map q.cell ≤ t
-first_from least q t calls told = All-head (IsFrom least) (draw q t) calls told.from
+first_from least q t calls reported = All-head (IsFrom least) (draw q t) calls reported.from
 
 pub rest_from : (least : ℕ → ℕ → ℕ) (q : Quota) (t : ℕ) (calls : List Call) → AreTicketsFrom least (draw q t ∷ calls) → AreTicketsFrom (after least q t) calls
-rest_from least q t calls told = record {
-  from = λ k d lt. after_of least q t (get_or calls k d) (All-tail (IsFrom least) (draw q t) calls told.from k d lt) (told.tickets.0 k d lt);
-  tickets = told.tickets.1;
+rest_from least q t calls reported = record {
+  from = λ k d lt. after_of least q t (get_or calls k d) (All-tail (IsFrom least) (draw q t) calls reported.from k d lt) (reported.tickets.0 k d lt);
+  tickets = reported.tickets.1;
 }
 
 pub weaker : (less more : ℕ → ℕ → ℕ) (calls : List Call) → ((map cell : ℕ) → less map cell ≤ more map cell) → AreTicketsFrom more calls → AreTicketsFrom less calls
-weaker less more calls le told = record { from = λ k d lt. lower (get_or calls k d) (told.from k d lt); tickets = told.tickets }
+weaker less more calls le reported = record { from = λ k d lt. lower (get_or calls k d) (reported.from k d lt); tickets = reported.tickets }
   where
     lower : (call : Call) → IsFrom more call → IsFrom less call
     lower call h = omega (arith, le call.question.map call.question.key, h)
@@ -141,7 +141,7 @@ module _ (olds news : List Rule) (rule other : Rule) (q p : Quota) (e : rule.quo
 abbrev pub rising : (from : ℕ) → ℕ → ℕ
 rising from k = min (from + k) 18446744073709551615
 
-pub rising_words : (from : ℕ) → AreWords (rising from)
+pub rising_words : (from : ℕ) → AreAnswerWords (rising from)
 rising_words from k = omega arith
 
 pub rising_is : (from n : ℕ) → from + n < 2 ^ 64 → (k : ℕ) → k < n → rising from k ≡ from + k
@@ -152,7 +152,7 @@ abbrev pub ahead : ℕ → (ℕ → ℕ) → ℕ → ℕ
 ahead ticket rest zero = ticket
 ahead ticket rest (suc k) = rest k
 
-pub ahead_words : (ticket : ℕ) (rest : ℕ → ℕ) → ticket < 2 ^ 64 → AreWords rest → AreWords (ahead ticket rest)
+pub ahead_words : (ticket : ℕ) (rest : ℕ → ℕ) → ticket < 2 ^ 64 → AreAnswerWords rest → AreAnswerWords (ahead ticket rest)
 ahead_words ticket rest h words zero = h
 ahead_words ticket rest h words (suc k) = words k
 
@@ -168,61 +168,61 @@ bound_after least q t bound le below map cell = by_cell (is_of q map cell)
 abbrev pub either : Bool → (one other : List Call × ℕ) → List Call × ℕ
 either t one other = if t then one else other
 
-module _ (least : ℕ → ℕ → ℕ) (quota : Quota) (code : ℕ) (told : ℕ → ℕ) (rest : List Call × ℕ) where
+module _ (least : ℕ → ℕ → ℕ) (quota : Quota) (code : ℕ) (reported : ℕ → ℕ) (rest : List Call × ℕ) where
   -- a draw and what comes after it get such tickets
-  pub drawn_told : least quota.map quota.cell ≤ told 0 → (nat_lt (told 0) quota.limit ≡ false → AreTicketsFrom (after least quota (told 0)) rest.0) → AreTicketsFrom least (ruled (Some quota) code told rest).0
-  drawn_told le behind = by_test (nat_lt (told 0) quota.limit) behind
+  pub drawn_answered : least quota.map quota.cell ≤ reported 0 → (nat_lt (reported 0) quota.limit ≡ false → AreTicketsFrom (after least quota (reported 0)) rest.0) → AreTicketsFrom least (ruled (Some quota) code reported rest).0
+  drawn_answered le following = by_test (nat_lt (reported 0) quota.limit) following
     where
-      by_test : (b : Bool) → (b ≡ false → AreTicketsFrom (after least quota (told 0)) rest.0) → AreTicketsFrom least (either b (draw quota (told 0) ∷ [], code) (draw quota (told 0) ∷ rest.0, rest.1)).0
-      by_test true behind = told_first least quota (told 0) [] le (none_told (after least quota (told 0)))
-      by_test false behind = told_first least quota (told 0) rest.0 le (behind refl)
+      by_test : (b : Bool) → (b ≡ false → AreTicketsFrom (after least quota (reported 0)) rest.0) → AreTicketsFrom least (either b (draw quota (reported 0) ∷ [], code) (draw quota (reported 0) ∷ rest.0, rest.1)).0
+      by_test true following = answered_first least quota (reported 0) [] le (none_answered (after least quota (reported 0)))
+      by_test false following = answered_first least quota (reported 0) rest.0 le (following refl)
 
-  pub drawn_first : AreTicketsFrom least (ruled (Some quota) code told rest).0 → least quota.map quota.cell ≤ told 0
-  drawn_first h = by_test (nat_lt (told 0) quota.limit) h
+  pub drawn_first : AreTicketsFrom least (ruled (Some quota) code reported rest).0 → least quota.map quota.cell ≤ reported 0
+  drawn_first h = by_test (nat_lt (reported 0) quota.limit) h
     where
-      by_test : (b : Bool) → AreTicketsFrom least (either b (draw quota (told 0) ∷ [], code) (draw quota (told 0) ∷ rest.0, rest.1)).0 → least quota.map quota.cell ≤ told 0
-      by_test true h = first_from least quota (told 0) [] h
-      by_test false h = first_from least quota (told 0) rest.0 h
+      by_test : (b : Bool) → AreTicketsFrom least (either b (draw quota (reported 0) ∷ [], code) (draw quota (reported 0) ∷ rest.0, rest.1)).0 → least quota.map quota.cell ≤ reported 0
+      by_test true h = first_from least quota (reported 0) [] h
+      by_test false h = first_from least quota (reported 0) rest.0 h
 
-  pub drawn_rest : nat_lt (told 0) quota.limit ≡ false → AreTicketsFrom least (ruled (Some quota) code told rest).0 → AreTicketsFrom (after least quota (told 0)) rest.0
+  pub drawn_rest : nat_lt (reported 0) quota.limit ≡ false → AreTicketsFrom least (ruled (Some quota) code reported rest).0 → AreTicketsFrom (after least quota (reported 0)) rest.0
   drawn_rest e h =
-      rest_from least quota (told 0) rest.0
-      (subst (λ (b : Bool). AreTicketsFrom least (either b (draw quota (told 0) ∷ [], code) (draw quota (told 0) ∷ rest.0, rest.1)).0) e h)
+      rest_from least quota (reported 0) rest.0
+      (subst (λ (b : Bool). AreTicketsFrom least (either b (draw quota (reported 0) ∷ [], code) (draw quota (reported 0) ∷ rest.0, rest.1)).0) e h)
 
 -- rules get tickets that rise from a bound of the least on
-pub rising_told : (rules : List Rule) (bound : ℕ) (least : ℕ → ℕ → ℕ) (told : ℕ → ℕ) → ((k : ℕ) → k < length rules → told k ≡ bound + k) → ((map cell : ℕ) → least map cell ≤ bound) → AreTicketsFrom least (said rules told).0
-rising_told [] bound least told rises below = none_told least
-rising_told (rule ∷ rules) bound least told rises below =
-    by_quota rule.quota (λ l le. rising_told rules (suc bound) l (λ k. told (suc k)) (λ k lt. next k lt) le)
+pub rising_answered : (rules : List Rule) (bound : ℕ) (least : ℕ → ℕ → ℕ) (reported : ℕ → ℕ) → ((k : ℕ) → k < length rules → reported k ≡ bound + k) → ((map cell : ℕ) → least map cell ≤ bound) → AreTicketsFrom least (said rules reported).0
+rising_answered [] bound least reported rises below = none_answered least
+rising_answered (rule ∷ rules) bound least reported rises below =
+    by_quota rule.quota (λ l le. rising_answered rules (suc bound) l (λ k. reported (suc k)) (λ k lt. next k lt) le)
   where
-    first : told 0 ≡ bound
+    first : reported 0 ≡ bound
     first = rises 0 (omega arith) ∙ omega arith
 
-    next : (k : ℕ) → k < length rules → told (suc k) ≡ suc bound + k
+    next : (k : ℕ) → k < length rules → reported (suc k) ≡ suc bound + k
     next k lt = rises (suc k) (omega (arith, lt)) ∙ omega arith
 
-    by_quota : (o : Option Quota) → ((l : ℕ → ℕ → ℕ) → ((map cell : ℕ) → l map cell ≤ suc bound) → AreTicketsFrom l (said rules (λ k. told (suc k))).0) → AreTicketsFrom least (ruled o (verdict_number rule.verdict) told (said rules (λ k. told (suc k)))).0
-    by_quota None behind = none_told least
-    by_quota (Some q) behind =
-        drawn_told least q (verdict_number rule.verdict) told (said rules (λ k. told (suc k))) (omega (arith, first, below q.map q.cell))
-        (λ e. behind (after least q (told 0)) (bound_after least q (told 0) bound (omega (arith, first)) below))
+    by_quota : (o : Option Quota) → ((l : ℕ → ℕ → ℕ) → ((map cell : ℕ) → l map cell ≤ suc bound) → AreTicketsFrom l (said rules (λ k. reported (suc k))).0) → AreTicketsFrom least (ruled o (verdict_number rule.verdict) reported (said rules (λ k. reported (suc k)))).0
+    by_quota None following = none_answered least
+    by_quota (Some q) following =
+        drawn_answered least q (verdict_number rule.verdict) reported (said rules (λ k. reported (suc k))) (omega (arith, first, below q.map q.cell))
+        (λ e. following (after least q (reported 0)) (bound_after least q (reported 0) bound (omega (arith, first)) below))
 
 -- a ticket, and such tickets after it
-pub ahead_told : (least : ℕ → ℕ → ℕ) (q : Quota) (code : ℕ) (rules : List Rule) (t bound : ℕ) → least q.map q.cell ≤ t → t ≤ bound → ((map cell : ℕ) → least map cell ≤ bound) → suc bound + length rules < 2 ^ 64
+pub ahead_answered : (least : ℕ → ℕ → ℕ) (q : Quota) (code : ℕ) (rules : List Rule) (t bound : ℕ) → least q.map q.cell ≤ t → t ≤ bound → ((map cell : ℕ) → least map cell ≤ bound) → suc bound + length rules < 2 ^ 64
     → AreTicketsFrom least (ruled (Some q) code (ahead t (rising (suc bound))) (said rules (rising (suc bound)))).0
-ahead_told least q code rules t bound le fits below few =
-    drawn_told least q code (ahead t (rising (suc bound))) (said rules (rising (suc bound))) le
-    (λ e. rising_told rules (suc bound) (after least q t) (rising (suc bound)) (rising_is (suc bound) (length rules) few) (bound_after least q t bound fits below))
+ahead_answered least q code rules t bound le fits below few =
+    drawn_answered least q code (ahead t (rising (suc bound))) (said rules (rising (suc bound))) le
+    (λ e. rising_answered rules (suc bound) (after least q t) (rising (suc bound)) (rising_is (suc bound) (length rules) few) (bound_after least q t bound fits below))
 
 pub tickets_follow : TicketsFollow
 tickets_follow = record {
   start = λ draws tickets. from_start (λ map cell. 0) draws (λ map cell. refl) tickets;
-  none = none_told;
-  first = told_first;
+  none = none_answered;
+  first = answered_first;
   own = first_from;
   rest = rest_from;
   lower = weaker;
-  behind = least_more;
+  following = least_more;
   together = λ olds news rule other one two e f same_map same_key map cell.
       let ticket : ℕ = max (least_of olds news one.map one.cell) (max one.limit two.limit) in
       let low = both_below olds news rule other one two e f same_map same_key map cell ticket (omega arith) (omega arith) (omega arith) in

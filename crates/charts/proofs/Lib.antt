@@ -5,7 +5,7 @@ pub mod Tickets
 pub mod Witnesses
 pub mod Admitted
 pub mod RuleShapes
-pub mod Telling
+pub mod Reporting
 pub mod Celled
 pub mod Walking
 pub mod LineShapes
@@ -13,6 +13,6 @@ pub mod Deciding
 pub mod Meeting
 pub mod Resting
 pub mod Plainness
-pub mod Mistelling
+pub mod Misreporting
 mod Stopping
 mod Joining

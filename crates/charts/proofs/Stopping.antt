@@ -7,10 +7,10 @@ use Rattle.regions.specs.Points.{HasCommand}
 use Rattle.regions.specs.Questions.{HoldsAll, HoldsOn, HoldsWhere}
 use Rattle.regions.specs.Regions.{lies_in}
 use Rattle.regions.specs.declared.points.Point.{Point}
-use Rattle.regions.specs.declared.regions.Region.{Region}
+use Rattle.regions.specs.declared.regions.PointRegion.{PointRegion}
 use Rattle.charts.specs.Alike.{held}
 use Rattle.charts.specs.Deciders.{NeverDecides, StopsBefore, lets_pass, may_decide}
-use Rattle.charts.specs.Meetings.{holds_of, is_asked_at, meet_at}
+use Rattle.charts.specs.Meetings.{rule_holds_of, is_asked_at, meet_at}
 use Rattle.charts.specs.Points.{holds_at, tests_of}
 use Rattle.charts.proofs.Deciding.{never_by_test}
 use Rattle.charts.proofs.RuleShapes.{tests_at}
@@ -63,22 +63,22 @@ pub meeting_passed : (t : Bool) (asked : ℕ) (ends : Bool) (place : ℕ) (rules
 meeting_passed false asked ends place rules number h = h
 meeting_passed true asked ends place rules number stops = λ t p has there passes.
     let d = some_rule rules number stops.there in
-    ap (λ (b : Bool). b && holds_of place rules p) (stops_asking number asked ends rules d p stops.before stops.there (stops.free d) (sym (tests_at rules number d t p stops.there) ∙ passes))
+    ap (λ (b : Bool). b && rule_holds_of place rules p) (stops_asking number asked ends rules d p stops.before stops.there (stops.free d) (sym (tests_at rules number d t p stops.there) ∙ passes))
 
 -- ---- the points of the rule of a place
 
-pub held_at : (rules : List Rule) (place : ℕ) (d : Rule) (p : Point) → place < length rules → holds_of place rules p ≡ holds_at (get_or rules place d) p
+pub held_at : (rules : List Rule) (place : ℕ) (d : Rule) (p : Point) → place < length rules → rule_holds_of place rules p ≡ holds_at (get_or rules place d) p
 held_at [] place d p there = absurd (omega arith)
 held_at (rule ∷ rules) zero d p there = refl
 held_at (rule ∷ rules) (suc place) d p there = held_at rules place d p (omega arith)
 
-pub none_held : (rules : List Rule) (place : ℕ) (p : Point) → length rules ≤ place → holds_of place rules p ≡ false
-none_held [] zero p behind = refl
-none_held [] (suc place) p behind = refl
-none_held (rule ∷ rules) zero p behind = absurd (omega (arith, behind))
-none_held (rule ∷ rules) (suc place) p behind = none_held rules place p (omega (arith, behind))
+pub none_held : (rules : List Rule) (place : ℕ) (p : Point) → length rules ≤ place → rule_holds_of place rules p ≡ false
+none_held [] zero p following = refl
+none_held [] (suc place) p following = refl
+none_held (rule ∷ rules) zero p following = absurd (omega (arith, following))
+none_held (rule ∷ rules) (suc place) p following = none_held rules place p (omega (arith, following))
 
-not_deciding : (passed : List Rule) (place : ℕ) (rules : List Rule) (p : Point) → holds_of place rules p ≡ false → may_decide passed place rules p ≡ false
+not_deciding : (passed : List Rule) (place : ℕ) (rules : List Rule) (p : Point) → rule_holds_of place rules p ≡ false → may_decide passed place rules p ≡ false
 not_deciding passed zero [] p none = refl
 not_deciding passed (suc place) [] p none = refl
 not_deciding passed zero (rule ∷ rules) p none = rw none refl
@@ -86,7 +86,7 @@ not_deciding passed (suc place) (rule ∷ rules) p none =
     ap (λ (t : Bool). (not (holds_at rule p) || lets_pass rule.quota) && t) (not_deciding (passed ++ held p (rule ∷ [])) place rules p none)
     ∙ no_more (not (holds_at rule p) || lets_pass rule.quota)
 
-not_asked : (place : ℕ) (ends : Bool) (rules : List Rule) (p : Point) → holds_of place rules p ≡ false → is_asked_at place ends rules p ≡ false
+not_asked : (place : ℕ) (ends : Bool) (rules : List Rule) (p : Point) → rule_holds_of place rules p ≡ false → is_asked_at place ends rules p ≡ false
 not_asked zero ends [] p none = refl
 not_asked (suc place) ends [] p none = refl
 not_asked zero ends (rule ∷ rules) p none = rw none refl
@@ -95,27 +95,27 @@ not_asked (suc place) ends (rule ∷ rules) p none =
     ∙ no_more (not (holds_at rule p) || lets_pass rule.quota)
 
 -- what holds on a region, and holds outside of it, holds at all points
-pub everywhere : (holds : Point → Type 0) (region : Region) → ((p : Point) → HasCommand p → lies_in region p ≡ false → holds p) → HoldsOn holds region → HoldsAll holds
+pub everywhere : (holds : Point → Type 0) (region : PointRegion) → ((p : Point) → HasCommand p → lies_in region p ≡ false → holds p) → HoldsOn holds region → HoldsAll holds
 everywhere holds region outside inside p has = by_lies (lies_in region p) refl
   where
     by_lies : (t : Bool) → lies_in region p ≡ t → holds p
     by_lies true lies = inside p has lies
     by_lies false lies = outside p has lies
 
-pub deciding_inside : (rules : List Rule) (place : ℕ) (region : Region) → ((p : Point) → HasCommand p → lies_in region p ≡ false → holds_of place rules p ≡ false)
+pub deciding_inside : (rules : List Rule) (place : ℕ) (region : PointRegion) → ((p : Point) → HasCommand p → lies_in region p ≡ false → rule_holds_of place rules p ≡ false)
     → HoldsOn (NeverDecides rules place) region → HoldsAll (NeverDecides rules place)
 deciding_inside rules place region outside inside =
     everywhere (NeverDecides rules place) region (λ p has lies. never rules place p (not_deciding [] place rules p (outside p has lies))) inside
 
-pub meeting_inside : (asked : ℕ) (ends : Bool) (place : ℕ) (rules : List Rule) (one other both : Region)
-    → ((p : Point) → HasCommand p → lies_in one p ≡ false → holds_of asked rules p ≡ false) → ((p : Point) → HasCommand p → lies_in other p ≡ false → holds_of place rules p ≡ false)
+pub meeting_inside : (asked : ℕ) (ends : Bool) (place : ℕ) (rules : List Rule) (one other both : PointRegion)
+    → ((p : Point) → HasCommand p → lies_in one p ≡ false → rule_holds_of asked rules p ≡ false) → ((p : Point) → HasCommand p → lies_in other p ≡ false → rule_holds_of place rules p ≡ false)
     → ((p : Point) → HasCommand p → lies_in both p ≡ (lies_in one p && lies_in other p))
     → HoldsOn (λ p. meet_at asked ends place rules p ≡ false) both → HoldsAll (λ p. meet_at asked ends place rules p ≡ false)
 meeting_inside asked ends place rules one other both out_one out_other is inside =
     everywhere (λ p. meet_at asked ends place rules p ≡ false) both (λ p has lies. apart p has (lies_in one p) (lies_in other p) refl refl (sym (is p has) ∙ lies)) inside
   where
     apart : (p : Point) → HasCommand p → (t u : Bool) → lies_in one p ≡ t → lies_in other p ≡ u → (t && u) ≡ false → meet_at asked ends place rules p ≡ false
-    apart p has false u e f h = ap (λ (b : Bool). b && holds_of place rules p) (not_asked asked ends rules p (out_one p has e))
+    apart p has false u e f h = ap (λ (b : Bool). b && rule_holds_of place rules p) (not_asked asked ends rules p (out_one p has e))
     apart p has true false e f h = ap (λ (b : Bool). is_asked_at asked ends rules p && b) (out_other p has f) ∙ no_more (is_asked_at asked ends rules p)
     apart p has true true e f h = absurd (cc (h))
 

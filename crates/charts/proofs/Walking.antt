@@ -5,45 +5,45 @@ use Rattle.std.specs.Bool.{beq}
 use Rattle.policy_table.specs.declared.rules.Quota.{Quota}
 use Rattle.policy_table.specs.declared.rules.Rule.{Rule}
 use Rattle.regions.specs.declared.points.Point.{Point}
-use Rattle.charts.specs.Lines.{course, course_from, goes_on}
+use Rattle.charts.specs.Lines.{decision_path, path_from, goes_on}
 use Rattle.charts.specs.Points.{holds_at}
 
 opened : (n i : ℕ) (d : Rule) (rules : List Rule) (p : Point) → i < length rules
-    → course_from n (drop i rules) p
-    ≡ (if holds_at (get_or rules i d) p then n ∷ goes_on (get_or rules i d).quota (course_from (suc n) (drop (i + 1) rules) p) else course_from (suc n) (drop (i + 1) rules) p)
+    → path_from n (drop i rules) p
+    ≡ (if holds_at (get_or rules i d) p then n ∷ goes_on (get_or rules i d).quota (path_from (suc n) (drop (i + 1) rules) p) else path_from (suc n) (drop (i + 1) rules) p)
 opened n i d rules p lt =
-    ap (λ (rs : List Rule). course_from n rs p) (drop-cons rules i d lt)
-    ∙ ap (λ (k : ℕ). if holds_at (get_or rules i d) p then n ∷ goes_on (get_or rules i d).quota (course_from (suc n) (drop k rules) p) else course_from (suc n) (drop k rules) p) (sym (add-one i))
+    ap (λ (rs : List Rule). path_from n rs p) (drop-cons rules i d lt)
+    ∙ ap (λ (k : ℕ). if holds_at (get_or rules i d) p then n ∷ goes_on (get_or rules i d).quota (path_from (suc n) (drop k rules) p) else path_from (suc n) (drop k rules) p) (sym (add-one i))
 
 -- if a rule holds alike at both points, and the courses after it are the same, so are those from it on
-pub course_more : (n i : ℕ) (d : Rule) (rules : List Rule) (p q : Point) → i < length rules → holds_at (get_or rules i d) p ≡ holds_at (get_or rules i d) q
-    → course_from (suc n) (drop (i + 1) rules) p ≡ course_from (suc n) (drop (i + 1) rules) q → course_from n (drop i rules) p ≡ course_from n (drop i rules) q
-course_more n i d rules p q lt same rest =
+pub path_more : (n i : ℕ) (d : Rule) (rules : List Rule) (p q : Point) → i < length rules → holds_at (get_or rules i d) p ≡ holds_at (get_or rules i d) q
+    → path_from (suc n) (drop (i + 1) rules) p ≡ path_from (suc n) (drop (i + 1) rules) q → path_from n (drop i rules) p ≡ path_from n (drop i rules) q
+path_more n i d rules p q lt same rest =
     opened n i d rules p lt
-    ∙ kept (holds_at (get_or rules i d) p) (holds_at (get_or rules i d) q) (course_from (suc n) (drop (i + 1) rules) p) (course_from (suc n) (drop (i + 1) rules) q) same rest
+    ∙ kept (holds_at (get_or rules i d) p) (holds_at (get_or rules i d) q) (path_from (suc n) (drop (i + 1) rules) p) (path_from (suc n) (drop (i + 1) rules) q) same rest
     ∙ sym (opened n i d rules q lt)
   where
     kept : (t u : Bool) (a b : List ℕ) → t ≡ u → a ≡ b → (if t then n ∷ goes_on (get_or rules i d).quota a else a) ≡ (if u then n ∷ goes_on (get_or rules i d).quota b else b)
     kept t u a b e f = rw (e, f) refl
 
 -- after a rule without quota that holds at both, nothing is asked
-pub course_ends : (n i : ℕ) (d : Rule) (rules : List Rule) (p q : Point) → i < length rules → holds_at (get_or rules i d) p ≡ true → holds_at (get_or rules i d) q ≡ true → (get_or rules i d).quota ≡ None
-    → course_from n (drop i rules) p ≡ course_from n (drop i rules) q
-course_ends n i d rules p q lt one other none =
+pub path_ends : (n i : ℕ) (d : Rule) (rules : List Rule) (p q : Point) → i < length rules → holds_at (get_or rules i d) p ≡ true → holds_at (get_or rules i d) q ≡ true → (get_or rules i d).quota ≡ None
+    → path_from n (drop i rules) p ≡ path_from n (drop i rules) q
+path_ends n i d rules p q lt one other none =
     opened n i d rules p lt
-    ∙ kept (holds_at (get_or rules i d) p) (holds_at (get_or rules i d) q) (get_or rules i d).quota (course_from (suc n) (drop (i + 1) rules) p) (course_from (suc n) (drop (i + 1) rules) q) one other none
+    ∙ kept (holds_at (get_or rules i d) p) (holds_at (get_or rules i d) q) (get_or rules i d).quota (path_from (suc n) (drop (i + 1) rules) p) (path_from (suc n) (drop (i + 1) rules) q) one other none
     ∙ sym (opened n i d rules q lt)
   where
     kept : (t u : Bool) (o : Option Quota) (a b : List ℕ) → t ≡ true → u ≡ true → o ≡ None → (if t then n ∷ goes_on o a else a) ≡ (if u then n ∷ goes_on o b else b)
     kept t u o a b e f g = rw (e, f, g) refl
 
 -- a course that is numbered from a later number on does not begin with this one
-begins_later : (k n : ℕ) (rules : List Rule) (p : Point) (rest : List ℕ) → n < k → course_from k rules p ≡ n ∷ rest → ⊥
+begins_later : (k n : ℕ) (rules : List Rule) (p : Point) (rest : List ℕ) → n < k → path_from k rules p ≡ n ∷ rest → ⊥
 begins_later k n [] p rest lt e =
     let none : 0 ≡ length (n ∷ rest) = ap (λ (ns : List ℕ). length ns) e in
     omega (arith, none)
 begins_later k n (rule ∷ rules) p rest lt e =
-    step (holds_at rule p) (course_from (suc k) rules p) (begins_later (suc k) n rules p rest (omega (arith, lt))) e
+    step (holds_at rule p) (path_from (suc k) rules p) (begins_later (suc k) n rules p rest (omega (arith, lt))) e
   where
     step : (t : Bool) (a : List ℕ) → (a ≡ n ∷ rest → ⊥) → (if t then k ∷ goes_on rule.quota a else a) ≡ n ∷ rest → ⊥
     step true a later same =
@@ -52,16 +52,16 @@ begins_later k n (rule ∷ rules) p rest lt e =
     step false a later same = later same
 
 -- if a rule holds at only one of two points, the courses from it on differ
-pub course_apart : (n i : ℕ) (d : Rule) (rules : List Rule) (p q : Point) → i < length rules
+pub path_apart : (n i : ℕ) (d : Rule) (rules : List Rule) (p q : Point) → i < length rules
     → (holds_at (get_or rules i d) p ≡ holds_at (get_or rules i d) q → ⊥)
-    → course_from n (drop i rules) p ≡ course_from n (drop i rules) q
+    → path_from n (drop i rules) p ≡ path_from n (drop i rules) q
     → ⊥
-course_apart n i d rules p q lt differ same =
+path_apart n i d rules p q lt differ same =
     split (holds_at (get_or rules i d) p) (holds_at (get_or rules i d) q) differ (sym (opened n i d rules p lt) ∙ same ∙ opened n i d rules q lt)
   where
     split : (t u : Bool) → (t ≡ u → ⊥)
-        → (if t then n ∷ goes_on (get_or rules i d).quota (course_from (suc n) (drop (i + 1) rules) p) else course_from (suc n) (drop (i + 1) rules) p)
-        ≡ (if u then n ∷ goes_on (get_or rules i d).quota (course_from (suc n) (drop (i + 1) rules) q) else course_from (suc n) (drop (i + 1) rules) q)
+        → (if t then n ∷ goes_on (get_or rules i d).quota (path_from (suc n) (drop (i + 1) rules) p) else path_from (suc n) (drop (i + 1) rules) p)
+        ≡ (if u then n ∷ goes_on (get_or rules i d).quota (path_from (suc n) (drop (i + 1) rules) q) else path_from (suc n) (drop (i + 1) rules) q)
         → ⊥
     split true true apart e = apart refl
     split true false apart e = begins_later (suc n) n (drop (i + 1) rules) q _ (omega arith) (sym e)
@@ -70,11 +70,11 @@ course_apart n i d rules p q lt differ same =
 
 -- a rule holds alike at both points, and lets the rules after it be asked. If the courses from it on are the same, so
 -- are those after it
-pub course_back : (n i : ℕ) (d : Rule) (rules : List Rule) (p q : Point) → i < length rules → holds_at (get_or rules i d) p ≡ holds_at (get_or rules i d) q
+pub path_back : (n i : ℕ) (d : Rule) (rules : List Rule) (p q : Point) → i < length rules → holds_at (get_or rules i d) p ≡ holds_at (get_or rules i d) q
     → (holds_at (get_or rules i d) p && is_none (get_or rules i d).quota) ≡ false
-    → course_from n (drop i rules) p ≡ course_from n (drop i rules) q
-    → course_from (suc n) (drop (i + 1) rules) p ≡ course_from (suc n) (drop (i + 1) rules) q
-course_back n i d rules p q lt same on e =
+    → path_from n (drop i rules) p ≡ path_from n (drop i rules) q
+    → path_from (suc n) (drop (i + 1) rules) p ≡ path_from (suc n) (drop (i + 1) rules) q
+path_back n i d rules p q lt same on e =
     kept (holds_at (get_or rules i d) p) (holds_at (get_or rules i d) q) (get_or rules i d).quota _ _ same on (sym (opened n i d rules p lt) ∙ e ∙ opened n i d rules q lt)
   where
     kept : (t u : Bool) (o : Option Quota) (a b : List ℕ) → t ≡ u → (t && is_none o) ≡ false → (if t then n ∷ goes_on o a else a) ≡ (if u then n ∷ goes_on o b else b) → a ≡ b
@@ -86,8 +86,8 @@ course_back n i d rules p q lt same on e =
 
 -- the courses from a rule on are the same just if the whole courses are
 pub record GoOnAlike (rules : List Rule) (number : ℕ) (p q : Point) : Type 0 where
-  pub forth : course_from (suc number) (drop number rules) p ≡ course_from (suc number) (drop number rules) q → course rules p ≡ course rules q
-  pub back : course rules p ≡ course rules q → course_from (suc number) (drop number rules) p ≡ course_from (suc number) (drop number rules) q
+  pub forth : path_from (suc number) (drop number rules) p ≡ path_from (suc number) (drop number rules) q → decision_path rules p ≡ decision_path rules q
+  pub back : decision_path rules p ≡ decision_path rules q → path_from (suc number) (drop number rules) p ≡ path_from (suc number) (drop number rules) q
 
 pub alike_first : (rules : List Rule) (p q : Point) → GoOnAlike rules 0 p q
 alike_first rules p q = record { forth = λ e. e; back = λ e. e }
@@ -97,28 +97,28 @@ pub alike_more : (rules : List Rule) (i : ℕ) (d : Rule) (p q : Point) → i < 
     → (holds_at (get_or rules i d) p && is_none (get_or rules i d).quota) ≡ false
     → GoOnAlike rules (i + 1) p q
 alike_more rules i d p q lt alike same on = record {
-  forth = λ e. alike.forth (course_more (suc i) i d rules p q lt same (subst (λ (n : ℕ). course_from (suc n) (drop (i + 1) rules) p ≡ course_from (suc n) (drop (i + 1) rules) q) (add-one i) e));
-  back = λ e. subst (λ (n : ℕ). course_from (suc n) (drop (i + 1) rules) p ≡ course_from (suc n) (drop (i + 1) rules) q) (sym (add-one i)) (course_back (suc i) i d rules p q lt same on (alike.back e));
+  forth = λ e. alike.forth (path_more (suc i) i d rules p q lt same (subst (λ (n : ℕ). path_from (suc n) (drop (i + 1) rules) p ≡ path_from (suc n) (drop (i + 1) rules) q) (add-one i) e));
+  back = λ e. subst (λ (n : ℕ). path_from (suc n) (drop (i + 1) rules) p ≡ path_from (suc n) (drop (i + 1) rules) q) (sym (add-one i)) (path_back (suc i) i d rules p q lt same on (alike.back e));
 }
 
 pub alike_ends : (rules : List Rule) (i : ℕ) (d : Rule) (p q : Point) → i < length rules → GoOnAlike rules i p q
     → holds_at (get_or rules i d) p ≡ true → holds_at (get_or rules i d) q ≡ true → (get_or rules i d).quota ≡ None
-    → course rules p ≡ course rules q
-alike_ends rules i d p q lt alike one other none = alike.forth (course_ends (suc i) i d rules p q lt one other none)
+    → decision_path rules p ≡ decision_path rules q
+alike_ends rules i d p q lt alike one other none = alike.forth (path_ends (suc i) i d rules p q lt one other none)
 
-pub alike_last : (rules : List Rule) (i : ℕ) (p q : Point) → drop i rules ≡ [] → GoOnAlike rules i p q → course rules p ≡ course rules q
+pub alike_last : (rules : List Rule) (i : ℕ) (p q : Point) → drop i rules ≡ [] → GoOnAlike rules i p q → decision_path rules p ≡ decision_path rules q
 alike_last rules i p q none alike =
-    alike.forth (ap (λ (rs : List Rule). course_from (suc i) rs p) none ∙ sym (ap (λ (rs : List Rule). course_from (suc i) rs q) none))
+    alike.forth (ap (λ (rs : List Rule). path_from (suc i) rs p) none ∙ sym (ap (λ (rs : List Rule). path_from (suc i) rs q) none))
 
 pub alike_apart : (rules : List Rule) (i : ℕ) (d : Rule) (p q : Point) → i < length rules → GoOnAlike rules i p q
     → (holds_at (get_or rules i d) p ≡ holds_at (get_or rules i d) q → ⊥)
-    → course rules p ≡ course rules q
+    → decision_path rules p ≡ decision_path rules q
     → ⊥
-alike_apart rules i d p q lt alike differ same = course_apart (suc i) i d rules p q lt differ (alike.back same)
+alike_apart rules i d p q lt alike differ same = path_apart (suc i) i d rules p q lt differ (alike.back same)
 
 -- two answers that are not the same are of two tests that differ
-pub told_apart : (t u x y : Bool) → not (beq t u) ≡ true → t ≡ x → u ≡ y → x ≡ y → ⊥
-told_apart true true x y e f g h = true≢false (sym e)
-told_apart true false x y e f g h = true≢false (f ∙ h ∙ sym g)
-told_apart false true x y e f g h = true≢false (g ∙ sym h ∙ sym f)
-told_apart false false x y e f g h = true≢false (sym e)
+pub reported_apart : (t u x y : Bool) → not (beq t u) ≡ true → t ≡ x → u ≡ y → x ≡ y → ⊥
+reported_apart true true x y e f g h = true≢false (sym e)
+reported_apart true false x y e f g h = true≢false (f ∙ h ∙ sym g)
+reported_apart false true x y e f g h = true≢false (g ∙ sym h ∙ sym f)
+reported_apart false false x y e f g h = true≢false (sym e)

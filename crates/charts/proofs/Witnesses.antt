@@ -13,7 +13,7 @@ use Rattle.rmap.specs.Instruction.{has_increment_bit, is_used, kind_of}
 use Rattle.policy_table.specs.Meaning.{fields_of, last_address_of}
 use Rattle.regions.specs.Points.{HasCommand, IsSpan, is_distance}
 use Rattle.machine.specs.declared.calls.Call.{Call}
-use Rattle.charts.specs.Points.{IsDifference, decision_at, point_of}
+use Rattle.charts.specs.Points.{IsDifference, decision_at, header_point_of}
 use Rattle.charts.specs.Tickets.{AreTickets}
 use Rattle.charts.specs.Witness.{IsWitness, header_for, instruction_for, length_for}
 use Rattle.regions.specs.declared.points.Point.{Point}
@@ -107,7 +107,7 @@ last_back p span =
     (increments_too p.kind (is_used_kind p.kind (p.last - p.first) span.distance)) (first_back p (omega (arith, span.order, span.fits)))
     (length_back p (omega (arith, span.order, near, few_addresses p.kind (p.last + 1 - p.first)))) span.order
 
-pub point_back : (p : Point) → IsSpan p.kind p.first p.last → point_of (header_for p) ≡ p
+pub point_back : (p : Point) → IsSpan p.kind p.first p.last → header_point_of (header_for p) ≡ p
 point_back p span =
     ap (λ (kind : Kind). record { kind = kind; key = p.key; initiator = p.initiator; extended = p.extended; first = address_of (fields_of (header_for p)); last = last_address_of (fields_of (header_for p)) })
     (kind_back p.kind (is_used_kind p.kind (p.last - p.first) span.distance))
@@ -133,18 +133,18 @@ tail_bytes p b =
     (All-append IsByte (start ++ first) count (All-append IsByte start first start_fits (bytes_fit 4 p.first)) (bytes_fit 3 (length_at p)))
     (All-cons IsByte 0 [] (omega arith) (All-nil IsByte))
 
-pub have_headers : (old new : List Rule) (p : Point) → IsDifference old new p → IsWitness old new (header_for p) × (point_of (header_for p) ≡ p)
+pub have_headers : (old new : List Rule) (p : Point) → IsDifference old new p → IsWitness old new (header_for p) × (header_point_of (header_for p) ≡ p)
 have_headers old new p d =
-    let back : point_of (header_for p) ≡ p = point_back p d.command.span in
-    let told : ℕ → ℕ = d.differ.told in
-    let old_is = at_point old (header_for p) told ∙ ap (λ (q : Point). decision_at old q told) back in
-    let new_is = at_point new (header_for p) told ∙ ap (λ (q : Point). decision_at new q told) back in (
+    let back : header_point_of (header_for p) ≡ p = point_back p d.command.span in
+    let reported : ℕ → ℕ = d.differ.reported in
+    let old_is = at_point old (header_for p) reported ∙ ap (λ (q : Point). decision_at old q reported) back in
+    let new_is = at_point new (header_for p) reported ∙ ap (λ (q : Point). decision_at new q reported) back in (
       record {
         judged = record {
           header = record { front = refl; tail = refl; front_bytes = front_bytes p d.command; tail_bytes = tail_bytes p d.command };
           span = subst (λ (q : Point). IsSpan q.kind q.first q.last) (sym back) d.command.span;
         };
-        told = told;
+        reported = reported;
         words = d.differ.words;
         old_tickets = subst (λ (x : List Call × ℕ). AreTickets x.0) (sym old_is) d.differ.old_tickets;
         new_tickets = subst (λ (x : List Call × ℕ). AreTickets x.0) (sym new_is) d.differ.new_tickets;

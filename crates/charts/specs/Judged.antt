@@ -5,8 +5,8 @@ use Rattle.rmap.specs.Checks.{header_line}
 use Rattle.rmap.specs.Command.{CommandValue, IsHeader}
 use Rattle.rmap.specs.Windows.{WindowsValue}
 use Rattle.regions.specs.Regions.{lies_in}
-use Rattle.regions.specs.declared.regions.Region.{Region}
-use Rattle.charts.specs.Points.{point_of}
+use Rattle.regions.specs.declared.regions.PointRegion.{PointRegion}
+use Rattle.charts.specs.Points.{header_point_of}
 use Rattle.charts.specs.Same.{AreSame, MayBeJudged}
 use Rattle.charts.specs.Tickets.{AreTicketsOfOne}
 use Rattle.policy_table.specs.Meaning.{decision}
@@ -31,7 +31,7 @@ JudgedMayBe =
 -- whatever tickets one of them gets
 abbrev pub NodesDecideAlike : Type 0
 NodesDecideAlike =
-    (asked : Region) (old new : List Rule) → AreSame asked old new → (c : CommandValue) (w : WindowsValue) → IsHeader c → HasBytesAlone c → All EndsInTime w.banks
-    → header_line c w ≡ None → lies_in asked (point_of (header c.front c.tail)) ≡ true → (told : ℕ → ℕ)
-    → AreTicketsOfOne (decision old (header c.front c.tail) told).0 (decision new (header c.front c.tail) told).0
-    → decision old (header c.front c.tail) told ≡ decision new (header c.front c.tail) told
+    (asked : PointRegion) (old new : List Rule) → AreSame asked old new → (c : CommandValue) (w : WindowsValue) → IsHeader c → HasBytesAlone c → All EndsInTime w.banks
+    → header_line c w ≡ None → lies_in asked (header_point_of (header c.front c.tail)) ≡ true → (reported : ℕ → ℕ)
+    → AreTicketsOfOne (decision old (header c.front c.tail) reported).0 (decision new (header c.front c.tail) reported).0
+    → decision old (header c.front c.tail) reported ≡ decision new (header c.front c.tail) reported

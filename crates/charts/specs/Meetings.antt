@@ -14,14 +14,14 @@ is_asked_at zero ends (rule ∷ rules) p = holds_at rule p && (not ends || not (
 is_asked_at (suc places) ends (rule ∷ rules) p = (not (holds_at rule p) || lets_pass rule.quota) && is_asked_at places ends rules p
 
 -- whether the rule this many places on holds
-abbrev pub holds_of : (places : ℕ) → List Rule → Point → Bool
-holds_of places [] p = false
-holds_of zero (rule ∷ rules) p = holds_at rule p
-holds_of (suc places) (rule ∷ rules) p = holds_of places rules p
+abbrev pub rule_holds_of : (places : ℕ) → List Rule → Point → Bool
+rule_holds_of places [] p = false
+rule_holds_of zero (rule ∷ rules) p = holds_at rule p
+rule_holds_of (suc places) (rule ∷ rules) p = rule_holds_of places rules p
 
 -- whether one rule is asked at a point at which another holds
 abbrev pub meet_at : (asked : ℕ) → (ends : Bool) → (place : ℕ) → List Rule → Point → Bool
-meet_at asked ends place rules p = is_asked_at asked ends rules p && holds_of place rules p
+meet_at asked ends place rules p = is_asked_at asked ends rules p && rule_holds_of place rules p
 
 -- so it is at some point that a command has
 pub record Meet (asked : ℕ) (ends : Bool) (place : ℕ) (rules : List Rule) : Type 0 where

@@ -5,15 +5,15 @@ use Rattle.machine.specs.Memory.{Header}
 use Rattle.rmap.specs.declared.verdict.Verdict.TheVariants.{NotAuthorised}
 use Rattle.rmap.specs.Verdict.{verdict_number}
 use Rattle.rmap.specs.Command.{address_of, command_kind, extended_of, initiator_of, key_of}
-use Rattle.policy_table.specs.Meaning.{AreWords, agrees, fields_of, has_kind, last_address_of, ruled}
+use Rattle.policy_table.specs.Meaning.{AreAnswerWords, agrees, fields_of, agrees_with_kind, last_address_of, ruled}
 use Rattle.policy_table.specs.declared.rules.Rule.{Rule}
 use Rattle.charts.specs.Tickets.{AreTickets, AreTicketsOfOne}
 use Rattle.regions.specs.Points.{HasCommand}
 use Rattle.regions.specs.declared.points.Point.{Point}
 
 -- the part of a header that a rule looks at
-abbrev pub point_of : Header → Point
-point_of h = record {
+abbrev pub header_point_of : Header → Point
+header_point_of h = record {
   kind = command_kind (fields_of h);
   key = key_of (fields_of h);
   initiator = initiator_of (fields_of h);
@@ -25,7 +25,7 @@ point_of h = record {
 -- whether the conditions of a rule hold at a point
 abbrev pub holds_at : Rule → Point → Bool
 holds_at rule p =
-    has_kind rule.kind p.kind && agrees rule.key p.key && agrees rule.initiator p.initiator
+    agrees_with_kind rule.kind p.kind && agrees rule.key p.key && agrees rule.initiator p.initiator
     && agrees rule.extended p.extended && (nat_le rule.low p.first && nat_le p.last rule.high)
 
 -- the same test for each rule
@@ -33,27 +33,27 @@ abbrev pub tests_of : List Rule → List (Point → Bool)
 tests_of rules = map (λ rule. holds_at rule) rules
 
 -- the decision of a table at a point: that of each header there
-abbrev pub decision_at : List Rule → Point → (told : ℕ → ℕ) → List Call × ℕ
-decision_at [] p told = ([], verdict_number NotAuthorised)
-decision_at (rule ∷ rules) p told =
+abbrev pub decision_at : List Rule → Point → (reported : ℕ → ℕ) → List Call × ℕ
+decision_at [] p reported = ([], verdict_number NotAuthorised)
+decision_at (rule ∷ rules) p reported =
     if holds_at rule p
-    then ruled rule.quota (verdict_number rule.verdict) told (decision_at rules p (λ k. told (suc k)))
-    else decision_at rules p told
+    then ruled rule.quota (verdict_number rule.verdict) reported (decision_at rules p (λ k. reported (suc k)))
+    else decision_at rules p reported
 
 -- two tables decide alike at a point: whatever tickets one of them gets, they make the same draws and give the same
 -- verdict
-abbrev pub AreAlike : (old new : List Rule) → Point → Type 0
-AreAlike old new p =
-    (told : ℕ → ℕ) → AreTicketsOfOne (decision_at old p told).0 (decision_at new p told).0
-    → decision_at old p told ≡ decision_at new p told
+abbrev pub DecideAlike : (old new : List Rule) → Point → Type 0
+DecideAlike old new p =
+    (reported : ℕ → ℕ) → AreTicketsOfOne (decision_at old p reported).0 (decision_at new p reported).0
+    → decision_at old p reported ≡ decision_at new p reported
 
 -- they do not, for some tickets
 pub record Differ (old new : List Rule) (p : Point) : Type 0 where
-  pub told : ℕ → ℕ
-  pub words : AreWords told
-  pub old_tickets : AreTickets (decision_at old p told).0
-  pub new_tickets : AreTickets (decision_at new p told).0
-  pub differ : ¬ (decision_at old p told ≡ decision_at new p told)
+  pub reported : ℕ → ℕ
+  pub words : AreAnswerWords reported
+  pub old_tickets : AreTickets (decision_at old p reported).0
+  pub new_tickets : AreTickets (decision_at new p reported).0
+  pub differ : ¬ (decision_at old p reported ≡ decision_at new p reported)
 
 -- some command has the point, and there two tables decide differently
 pub record IsDifference (old new : List Rule) (p : Point) : Type 0 where

@@ -6,15 +6,15 @@ use Rattle.policy_table.specs.declared.rules.Quota.{Quota}
 use Rattle.policy_table.specs.declared.rules.Rule.{Rule}
 
 -- if two draws are of one cell, the later gets the greater number
-abbrev pub IsBelow : (one later : Call) → Type 0
-IsBelow one later =
+abbrev pub IsTicketBelow : (one later : Call) → Type 0
+IsTicketBelow one later =
     one.question.map ≡ later.question.map → one.question.key ≡ later.question.key → one.answer < later.answer
 
 -- the draws of one run get tickets: of two of one cell the later gets the greater. A counter that has given fewer than
 -- 2^64 does so
 abbrev pub AreTickets : List Call → Type 0
 AreTickets [] = Unit {0}
-AreTickets (one ∷ draws) = All (IsBelow one) draws × AreTickets draws
+AreTickets (one ∷ draws) = All (IsTicketBelow one) draws × AreTickets draws
 
 -- the draws of one of two runs get tickets
 abbrev pub AreTicketsOfOne : (one other : List Call) → Type 0
@@ -68,7 +68,7 @@ pub record TicketsFollow : Type 0 where
       → AreTicketsFrom least (draw quota answer ∷ draws) → AreTicketsFrom (after least quota answer) draws
   pub lower : (less more : (map cell : ℕ) → ℕ) (draws : List Call) → ((map cell : ℕ) → less map cell ≤ more map cell)
       → AreTicketsFrom more draws → AreTicketsFrom less draws
-  pub behind : (least : ℕ) (rules : List Rule) (rule : Rule) (map cell : ℕ)
+  pub following : (least : ℕ) (rules : List Rule) (rule : Rule) (map cell : ℕ)
       → least_from least (rules ++ rule ∷ []) map cell ≡ raised rule.quota map cell (least_from least rules map cell)
   pub together : (olds news : List Rule) (rule other : Rule) (one two : Quota) → rule.quota ≡ Some one → other.quota ≡ Some two
       → one.map ≡ two.map → one.cell ≡ two.cell → (map cell : ℕ)

@@ -5,8 +5,8 @@ use Rattle.machine.specs.Memory.{Header, header}
 use Rattle.rmap.specs.declared.kind.Kind.{Kind}
 use Rattle.rmap.specs.declared.kind.Kind.TheVariants.{Read, Rmw, Unused, Write}
 use Rattle.charts.specs.Same.{MayBeJudged}
-use Rattle.policy_table.specs.Meaning.{AreWords, decision}
-use Rattle.charts.specs.Points.{IsDifference, point_of}
+use Rattle.policy_table.specs.Meaning.{AreAnswerWords, decision}
+use Rattle.charts.specs.Points.{IsDifference, header_point_of}
 use Rattle.charts.specs.Tickets.{AreTickets}
 use Rattle.regions.specs.declared.points.Point.{Point}
 use Rattle.policy_table.specs.declared.rules.Rule.{Rule}
@@ -34,13 +34,13 @@ header_for p = header (254 ∷ 1 ∷ instruction_for p.kind ∷ p.key ∷ [])
 -- a header of a command that may be judged is decided differently, for some tickets
 pub record IsWitness (old new : List Rule) (h : Header) : Type 0 where
   pub judged : MayBeJudged h
-  pub told : ℕ → ℕ
-  pub words : AreWords told
-  pub old_tickets : AreTickets (decision old h told).0
-  pub new_tickets : AreTickets (decision new h told).0
-  pub differ : ¬ (decision old h told ≡ decision new h told)
+  pub reported : ℕ → ℕ
+  pub words : AreAnswerWords reported
+  pub old_tickets : AreTickets (decision old h reported).0
+  pub new_tickets : AreTickets (decision new h reported).0
+  pub differ : ¬ (decision old h reported ≡ decision new h reported)
 
 -- if two tables differ at a point, the header there is a witness, and it has that point
 abbrev pub DifferencesHaveHeaders : Type 0
 DifferencesHaveHeaders =
-    (old new : List Rule) (p : Point) → IsDifference old new p → IsWitness old new (header_for p) × (point_of (header_for p) ≡ p)
+    (old new : List Rule) (p : Point) → IsDifference old new p → IsWitness old new (header_for p) × (header_point_of (header_for p) ≡ p)

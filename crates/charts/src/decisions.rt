@@ -1,13 +1,13 @@
 //! Whether two tables decide alike at a point.
 
 ghost use Rattle.std.specs.Prelude.{◌≡◌, ◌≤◌, [], MatchBool, MatchOption, drop, length, take};
-ghost use Rattle.charts.specs.Alike.{DifferWithinLimits, IsNext, alike_behind, alike_said, held, same_steps, stop, stops_with};
-ghost use Rattle.charts.specs.Points.{AreAlike, holds_at};
+ghost use Rattle.charts.specs.Alike.{DifferWithinLimits, IsNextRule, alike_after, alike_said, held, same_steps, stop, stops_with};
+ghost use Rattle.charts.specs.Points.{DecideAlike, holds_at};
 ghost use Rattle.charts.specs.Tickets.{is_of, least_of};
 ghost use Rattle.policy_table.specs.Meaning.{agrees};
 
 use crate::leasts::{is_of_one_cell, least_ticket};
-use policy_table::{Quota, Rule, has_kind};
+use policy_table::{Quota, Rule, agrees_with_kind};
 use regions::Point;
 use rmap::Verdict;
 
@@ -22,7 +22,7 @@ pub fn agrees(wanted: Option<u8>, byte: u8) -> bool
 pub fn holds_at(rule: &Rule, point: &Point) -> bool
     ensures { result ≡ holds_at rule.now point.now }
 {
-    has_kind(rule.kind, point.kind)
+    agrees_with_kind(rule.kind, point.kind)
         && agrees(rule.key, point.key)
         && agrees(rule.initiator, point.initiator)
         && agrees(rule.extended, point.extended)
@@ -33,21 +33,21 @@ pub fn holds_at(rule: &Rule, point: &Point) -> bool
 #[derive(Clone, Copy, Debug, PartialEq, Eq)]
 struct NextRule {
     rule: Rule,
-    behind: usize,
+    following: usize,
 }
 
 /// The first rule, from that of a number on, that holds at a point.
 fn next_held(rules: &[Rule], from: usize, point: &Point) -> Option<NextRule>
     requires { from ≤ length rules.now }
     ensures { MatchOption result (held point.now (drop from rules.now) ≡ [])
-        (IsNext point.now rules.now from) }
+        (IsNextRule point.now rules.now from) }
 {
     for number in from..rules.len() {
         let rule = rules[number];
         if holds_at(&rule, point) {
             return Some(NextRule {
                 rule,
-                behind: number + 1,
+                following: number + 1,
             });
         }
     }
@@ -86,16 +86,16 @@ fn same_steps(
     code: u8,
     other: &Quota,
     other_code: u8,
-    behind_one: Option<u8>,
-    behind_other: Option<u8>,
+    after_one: Option<u8>,
+    after_other: Option<u8>,
 ) -> bool
-    ensures { result ≡ same_steps least one.now code other.now other_code behind_one behind_other }
+    ensures { result ≡ same_steps least one.now code other.now other_code after_one after_other }
 {
     let (limit, other_limit) = (u64::from(one.limit), u64::from(other.limit));
     is_of_one_cell(one, other)
         && ((limit <= least || (other_limit <= least || code == other_code))
-            && ((limit <= least.max(other_limit) || stops_with(behind_other, code))
-                && (other_limit <= least.max(limit) || stops_with(behind_one, other_code))))
+            && ((limit <= least.max(other_limit) || stops_with(after_other, code))
+                && (other_limit <= least.max(limit) || stops_with(after_one, other_code))))
 }
 
 /// The least ticket of a cell after this many rules of each of two tables. Those of them that hold at a point drew of
@@ -125,7 +125,7 @@ fn least_of(
 fn alike_from(old: &[Rule], passed: usize, new: &[Rule], new_passed: usize, point: &Point) -> bool
     requires old { passed ≤ length old.now }
     requires new { new_passed ≤ length new.now }
-    ensures { result ≡ alike_behind (held point.now (take passed old.now))
+    ensures { result ≡ alike_after (held point.now (take passed old.now))
         (held point.now (take new_passed new.now)) (held point.now (drop passed old.now))
         (held point.now (drop new_passed new.now)) }
 {
@@ -145,18 +145,18 @@ fn alike_from(old: &[Rule], passed: usize, new: &[Rule], new_passed: usize, poin
     };
     let other_code = other.rule.verdict.number();
     let least = least_of(old, passed, new, new_passed, point, &quota);
-    let behind_one = stop_at(old, next.behind, point);
-    let behind_other = stop_at(new, other.behind, point);
+    let after_one = stop_at(old, next.following, point);
+    let after_other = stop_at(new, other.following, point);
     if same_steps(
         least,
         &quota,
         code,
         &limit,
         other_code,
-        behind_one,
-        behind_other,
+        after_one,
+        after_other,
     ) {
-        alike_from(old, next.behind, new, other.behind, point)
+        alike_from(old, next.following, new, other.following, point)
     } else {
         false
     }
@@ -171,7 +171,7 @@ pub(crate) fn are_alike(old: &[Rule], new: &[Rule], point: &Point) -> bool
 
 /// Whether two tables decide alike at a point, whatever the tickets are.
 pub fn alike(old: &[Rule], new: &[Rule], point: &Point) -> bool
-    ensures { MatchBool result (AreAlike old.now new.now point.now)
+    ensures { MatchBool result (DecideAlike old.now new.now point.now)
         (DifferWithinLimits old.now new.now point.now) }
 {
     are_alike(old, new, point)

@@ -17,19 +17,19 @@ mod meetings;
 mod pieces;
 mod rests;
 mod shapes;
-mod told;
+mod reported;
 mod walks;
 
 pub use comparisons::first_difference;
 pub use decisions::{alike, holds_at};
 pub use laws::{
-    charts_are_read, courses, differences_have_headers, nodes_decide_alike, tickets_follow,
+    charts_are_read, decision_paths, differences_have_headers, nodes_decide_alike, tickets_follow,
 };
 pub use leasts::{is_of_one_cell, raised};
-pub use lines::Line;
+pub use lines::ChartLine;
 pub use matches::never_matches;
 pub use meetings::{is_asked, is_asked_where, is_stopped_by};
 pub use pieces::{FIELDS, is_in_pieces};
 pub use rests::point_in;
 pub use shapes::region_of;
-pub use told::{comparison_cells, map_cells};
+pub use reported::{comparison_cells, map_cells};

@@ -5,19 +5,19 @@ ghost use Rattle.regions.specs.Points.{HasCommand};
 ghost use Rattle.regions.specs.Regions.{lies_in};
 ghost use Rattle.regions.specs.declared.points.Point.{Point};
 ghost use Rattle.charts.specs.Alike.{HasLimit, held};
-ghost use Rattle.charts.specs.Deciders.{DecidesWithinLimits, Matches, NeverDecides, NeverMatches, StopsBefore, has_room, may_decide};
-ghost use Rattle.charts.specs.Meetings.{holds_of};
+ghost use Rattle.charts.specs.Deciders.{DecidesWithinLimits, Matches, NeverDecides, NeverMatches, StopsBefore, has_room_to_decide, may_decide};
+ghost use Rattle.charts.specs.Meetings.{rule_holds_of};
 ghost use Rattle.charts.specs.Points.{tests_of};
 
 use crate::decisions::holds_at;
 use crate::leasts::least_ticket;
 use crate::shapes::region_of;
 use policy_table::{Quota, Rule};
-use regions::{Point, Question, Region, search_in};
+use regions::{Point, PointQuestion, PointRegion, search_in};
 
 /// Whether a rule that holds may decide, after rules of which those that hold did not match.
-fn has_room(quota: Option<Quota>, before: &[Rule], point: &Point) -> bool
-    ensures { result ≡ has_room quota (held point.now before.now) }
+fn has_room_to_decide(quota: Option<Quota>, before: &[Rule], point: &Point) -> bool
+    ensures { result ≡ has_room_to_decide quota (held point.now before.now) }
 {
     match quota {
         None => true,
@@ -33,7 +33,7 @@ fn may_decide(rules: &[Rule], place: usize, point: &Point) -> bool
         let rule = &rules[number];
         let holds = holds_at(rule, point);
         if number == place {
-            return holds && has_room(rule.quota, &rules[..number], point);
+            return holds && has_room_to_decide(rule.quota, &rules[..number], point);
         }
         if holds && rule.quota.is_none() {
             return false;
@@ -53,14 +53,14 @@ pub(crate) fn stops_before(rules: &[Rule], number: usize, place: usize) -> bool
 }
 
 /// The points of the rule of a place; all points, if there is none.
-pub(crate) fn region_at(rules: &[Rule], place: usize) -> Region
+pub(crate) fn region_at(rules: &[Rule], place: usize) -> PointRegion
     ensures { (p : Point) → HasCommand p → lies_in result p ≡ false
-        → holds_of place rules.now p ≡ false }
+        → rule_holds_of place rules.now p ≡ false }
 {
     if place < rules.len() {
         return region_of(&rules[place]);
     }
-    Region::whole()
+    PointRegion::whole()
 }
 
 /// Whether the rule of a place never decides.
@@ -70,14 +70,14 @@ struct Deciding<'a> {
     place: usize,
 }
 
-impl Question for Deciding<'_> {
+impl PointQuestion for Deciding<'_> {
     ghost tests = { λ q. tests_of q.rules.now };
 
     ghost holds = { λ q. NeverDecides q.rules.now q.place };
 
     ghost fails = { λ q. DecidesWithinLimits q.rules.now q.place };
 
-    fn shape(&self, number: usize) -> Option<Region> {
+    fn shape(&self, number: usize) -> Option<PointRegion> {
         if number < self.rules.len() {
             return Some(region_of(&self.rules[number]));
         }

@@ -1,14 +1,14 @@
 //! Where rules meet.
 
 ghost use Rattle.std.specs.Prelude.{◌≡◌, ◌&&◌, MatchBool, false, true};
-ghost use Rattle.charts.specs.Meetings.{Meet, NeverMeet, holds_of, is_asked_at, meet_at};
+ghost use Rattle.charts.specs.Meetings.{Meet, NeverMeet, rule_holds_of, is_asked_at, meet_at};
 ghost use Rattle.charts.specs.Points.{tests_of};
 
 use crate::decisions::holds_at;
 use crate::matches::{region_at, stops_before};
 use crate::shapes::region_of;
 use policy_table::Rule;
-use regions::{Point, Question, Region, search_in};
+use regions::{Point, PointQuestion, PointRegion, search_in};
 
 /// Whether the rule of a place is asked at a point: it holds, and none without quota before it does. If it must end the
 /// course, it has no quota itself.
@@ -30,8 +30,8 @@ fn is_asked_at(rules: &[Rule], place: usize, ends: bool, point: &Point) -> bool
 }
 
 /// Whether the rule of a place holds at a point.
-fn holds_of(rules: &[Rule], place: usize, point: &Point) -> bool
-    ensures { result ≡ holds_of place rules.now point.now }
+fn rule_holds_of(rules: &[Rule], place: usize, point: &Point) -> bool
+    ensures { result ≡ rule_holds_of place rules.now point.now }
 {
     let mut left = place;
     for rule in rules {
@@ -52,14 +52,14 @@ struct Meeting<'a> {
     place: usize,
 }
 
-impl Question for Meeting<'_> {
+impl PointQuestion for Meeting<'_> {
     ghost tests = { λ q. tests_of q.rules.now };
 
     ghost holds = { λ q p. meet_at q.asked q.ends q.place q.rules.now p ≡ false };
 
     ghost fails = { λ q p. meet_at q.asked q.ends q.place q.rules.now p ≡ true };
 
-    fn shape(&self, number: usize) -> Option<Region> {
+    fn shape(&self, number: usize) -> Option<PointRegion> {
         if number < self.rules.len() {
             return Some(region_of(&self.rules[number]));
         }
@@ -72,7 +72,7 @@ impl Question for Meeting<'_> {
 
     fn ask(&self, point: &Point) -> bool {
         let meet = is_asked_at(self.rules, self.asked, self.ends, point)
-            && holds_of(self.rules, self.place, point);
+            && rule_holds_of(self.rules, self.place, point);
         !meet
     }
 }

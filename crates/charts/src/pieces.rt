@@ -3,15 +3,15 @@
 ghost use Rattle.std.specs.Prelude.{◌≡◌, ◌≤◌, ◌<◌, ◌+◌, ◌-◌, ◌^◌, MatchBool, length};
 ghost use Rattle.charts.specs.Pieces.{IsPiece, LieWithin};
 
-use crate::lines::{Chart, Line};
+use crate::lines::{Chart, ChartLine};
 use policy_table::Rule;
-use regions::{Region, Side, search_in};
+use regions::{PointRegion, Side, search_in};
 
 /// How many sides cut a chart into pieces: the kinds, and the bytes of three fields.
 pub const FIELDS: u8 = 4;
 
 /// Whether the points of each line lie in a region.
-fn lie_within(lines: &[Line], asked: &Region) -> bool
+fn lie_within(lines: &[ChartLine], asked: &PointRegion) -> bool
     ensures { MatchBool result (LieWithin asked.now lines.now) (Unit {0}) }
 {
     for place in 0..lines.len() {
@@ -23,7 +23,7 @@ fn lie_within(lines: &[Line], asked: &Region) -> bool
 }
 
 /// Whether lines are the chart of the points of a region, and lie in it, by one search.
-fn is_piece(asked: &Region, all: bool, old: &[Rule], new: &[Rule], lines: &[Line]) -> bool
+fn is_piece(asked: &PointRegion, all: bool, old: &[Rule], new: &[Rule], lines: &[ChartLine]) -> bool
     requires { length old.now + length new.now + length lines.now < 2 ^ 64 - 1 }
     ensures { MatchBool result (IsPiece asked.now all old.now new.now lines.now) (Unit {0}) }
 {
@@ -54,7 +54,7 @@ fn field_of(left: u8) -> Side {
 }
 
 /// Whether two regions have the same values of a field.
-fn has_same(side: Side, one: &Region, other: &Region) -> bool {
+fn has_same(side: Side, one: &PointRegion, other: &PointRegion) -> bool {
     match side {
         Side::Kind => one.kinds == other.kinds,
         Side::Key => one.keys == other.keys,
@@ -65,7 +65,7 @@ fn has_same(side: Side, one: &Region, other: &Region) -> bool {
 }
 
 /// How many lines, the first ones, have the values of a field that a region has; one at least.
-fn run_of(lines: &[Line], side: Side, own: &Region) -> usize
+fn run_of(lines: &[ChartLine], side: Side, own: &PointRegion) -> usize
     requires { 0 < length lines.now }
     ensures some { 0 < result }
     ensures few { result ≤ length lines.now }
@@ -81,11 +81,11 @@ fn run_of(lines: &[Line], side: Side, own: &Region) -> usize
 ///
 /// It calls itself once for each field.
 pub fn is_in_pieces(
-    asked: &Region,
+    asked: &PointRegion,
     all: bool,
     old: &[Rule],
     new: &[Rule],
-    lines: &[Line],
+    lines: &[ChartLine],
     left: u8,
 ) -> bool
     requires { length old.now + length new.now + length lines.now < 2 ^ 64 - 1 }
@@ -96,18 +96,18 @@ pub fn is_in_pieces(
     }
     let side = field_of(left);
     let mut rest = *asked;
-    let mut behind = lines;
+    let mut following = lines;
     'groups: loop {
-        if behind.is_empty() {
-            return is_piece(&rest, all, old, new, behind);
+        if following.is_empty() {
+            return is_piece(&rest, all, old, new, following);
         }
-        let own = behind[0].region;
-        let (group, others) = behind.split_at(run_of(behind, side, &own));
+        let own = following[0].region;
+        let (group, others) = following.split_at(run_of(following, side, &own));
         let (inside, outside) = rest.cut(&own, side);
         if !is_in_pieces(&inside, all, old, new, group, left - 1) {
             return false;
         }
         rest = outside;
-        behind = others;
+        following = others;
     }
 }

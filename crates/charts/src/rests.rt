@@ -7,19 +7,19 @@ ghost use Rattle.regions.specs.declared.points.Point.{Point};
 ghost use Rattle.charts.specs.Lines.{have_same_words, is_left};
 ghost use Rattle.charts.specs.Rests.{HasNoPointIn, IsPointIn, is_left_in, rest_tests};
 
-use crate::lines::{Line, have_same_words, is_left};
-use regions::{Kinds, Point, Question, Region, search_in};
+use crate::lines::{ChartLine, have_same_words, is_left};
+use regions::{Kinds, Point, PointQuestion, PointRegion, search_in};
 
 /// The points of a region that are left for a line: they lie in no region of the lines before with the same words.
 #[derive(Drop)]
 struct Rest<'a> {
-    before: &'a [Line],
-    line: &'a Line,
-    region: &'a Region,
+    before: &'a [ChartLine],
+    line: &'a ChartLine,
+    region: &'a PointRegion,
 }
 
 /// The points that a line takes from another that has the rest.
-fn taken(other: &Line, line: &Line) -> Region
+fn taken(other: &ChartLine, line: &ChartLine) -> PointRegion
     ensures { (p : Point) → lies_in result p
         ≡ (have_same_words other.now.region line.now.region && lies_in other.now.region p) }
 {
@@ -34,14 +34,14 @@ fn taken(other: &Line, line: &Line) -> Region
     region
 }
 
-impl Question for Rest<'_> {
+impl PointQuestion for Rest<'_> {
     ghost tests = { λ q. rest_tests q.before.now q.line.now q.region.now };
 
     ghost holds = { λ q p. is_left_in q.before.now q.line.now q.region.now p ≡ false };
 
     ghost fails = { λ q p. is_left_in q.before.now q.line.now q.region.now p ≡ true };
 
-    fn shape(&self, number: usize) -> Option<Region> {
+    fn shape(&self, number: usize) -> Option<PointRegion> {
         if number < self.before.len() {
             return Some(taken(&self.before[number], self.line));
         }
@@ -65,7 +65,7 @@ impl Question for Rest<'_> {
 }
 
 /// A point of a region that the line of a place has, from 0 on, and some command.
-pub fn point_in(lines: &[Line], place: usize, within: &Region) -> Option<Point>
+pub fn point_in(lines: &[ChartLine], place: usize, within: &PointRegion) -> Option<Point>
     requires { place < length lines.now }
     ensures { MatchOption result (HasNoPointIn lines.now place within.now)
         (IsPointIn lines.now place within.now) }

@@ -3,7 +3,7 @@
 ghost use Rattle.std.specs.Prelude.{◌≡◌, ◌≤◌, ◌<◌, ◌++◌, ℕ, MatchOption, length, true};
 ghost use Rattle.rmap.specs.Instruction.{is_used};
 ghost use Rattle.rmap.specs.declared.kind.Kind.{Kind};
-ghost use Rattle.policy_table.specs.Meaning.{agrees, has_kind};
+ghost use Rattle.policy_table.specs.Meaning.{agrees, agrees_with_kind};
 ghost use Rattle.regions.specs.ByteSets.{has_byte};
 ghost use Rattle.regions.specs.Points.{HasCommand};
 ghost use Rattle.regions.specs.Regions.{is_one_of, lies_in};
@@ -11,11 +11,11 @@ ghost use Rattle.regions.specs.declared.points.Point.{Point};
 ghost use Rattle.charts.specs.Points.{IsRuleAt, holds_at};
 
 use policy_table::{Rule, RuleKind};
-use regions::{ByteSet, Kinds, Region, Stretch};
+use regions::{ByteSet, Kinds, PointRegion, Stretch};
 
 /// The kinds that agree with a rule's.
 fn kinds_of(wanted: RuleKind) -> Kinds
-    ensures { (kind : Kind) → is_used kind ≡ true → is_one_of result kind ≡ has_kind wanted kind }
+    ensures { (kind : Kind) → is_used kind ≡ true → is_one_of result kind ≡ agrees_with_kind wanted kind }
 {
     let any = wanted == RuleKind::Any;
     Kinds {
@@ -36,14 +36,14 @@ fn bytes_of(wanted: Option<u8>) -> ByteSet
 }
 
 /// The points at which the conditions of a rule hold.
-pub fn region_of(rule: &Rule) -> Region
+pub fn region_of(rule: &Rule) -> PointRegion
     ensures { (p : Point) → HasCommand p → lies_in result p ≡ holds_at rule.now p }
 {
     let kinds = kinds_of(rule.kind);
     let keys = bytes_of(rule.key);
     let initiators = bytes_of(rule.initiator);
     let extended = bytes_of(rule.extended);
-    Region {
+    PointRegion {
         kinds,
         keys,
         initiators,

@@ -3,7 +3,7 @@ use Rattle.std.proofs.Common.{◌≡◌, List, Option, Some, None, true, inl, in
 use Rattle.clap.specs.Walk.{Row, Text}
 use Rattle.commands.specs.CommandLine.{AsksFor, AsksNone, Names, NamesNone, NamesWork, ask_help}
 use Rattle.commands.specs.declared.work.Work.{Work}
-use Rattle.commands.specs.declared.work.Work.TheVariants.{Once, OnNode, Live, Told}
+use Rattle.commands.specs.declared.work.Work.TheVariants.{Once, OnNode, Live, Printed}
 use Rattle.job_parts.specs.declared.usage.UsageFault.{UsageFault}
 use Rattle.job_parts.specs.declared.usage.UsageFault.TheVariants.{Parse, BadOption, Memory}
 
@@ -20,7 +20,7 @@ asks_none words BadOption none = inr none
 asks_none words (Parse text) none = inr none
 
 -- no subcommand names a text
-names_no_text : (found : Option (Text × List Row)) (text : _) → Names found (Told text) → ⊥
+names_no_text : (found : Option (Text × List Row)) (text : _) → Names found (Printed text) → ⊥
 names_no_text None text named = named.0
 names_no_text (Some found) text named = named.0
 
@@ -29,4 +29,4 @@ pub asks_for : (words : List Text) (work : Work) → NamesWork words work → As
 asks_for words (Once job) named = named
 asks_for words (OnNode own) named = named
 asks_for words (Live talk) named = named
-asks_for words (Told text) named = absurd (names_no_text _ text named.1)
+asks_for words (Printed text) named = absurd (names_no_text _ text named.1)

@@ -7,12 +7,12 @@ use Rattle.clap.specs.Walk.{Text}
 use Rattle.job_config.specs.Configured.{ConfigurationValue, numbers_in}
 use Rattle.job_config.specs.Reads.{ReadsConfiguration, ReadsNoConfiguration}
 use Rattle.job_config.specs.declared.configuration.Configuration.{Configuration}
-use Rattle.job_parts.specs.Printed.{fault_line}
+use Rattle.job_parts.specs.Printed.{job_fault_line}
 use Rattle.job_parts.specs.Statuses.{usage_status}
 use Rattle.job_parts.specs.declared.faults.Fault.{Fault}
 use Rattle.job_parts.specs.declared.faults.Fault.TheVariants.{CannotWrite}
-use Rattle.job_parts.specs.declared.status.Status.{Status}
-use Rattle.job_parts.specs.declared.status.Status.TheVariants.{Failed, Misused}
+use Rattle.job_parts.specs.declared.status.ExitStatus.{ExitStatus}
+use Rattle.job_parts.specs.declared.status.ExitStatus.TheVariants.{Failed, Misused}
 use Rattle.job_parts.specs.declared.stops.WriteFault.{WriteFault}
 use Rattle.job_parts.specs.declared.usage.UsageFault.{UsageFault}
 use Rattle.commands.specs.CommandLine.{AsksFor, AsksNone}
@@ -20,9 +20,9 @@ use Rattle.job_frames.specs.FramesJob.{IsFramesUnsent, LivesFrames}
 use Rattle.job_live.specs.LiveJob.{IsUnsent, Lives}
 use Rattle.job_live.specs.declared.words.LiveWords.{LiveWords}
 use Rattle.commands.specs.Desks.{DeskWords, DumpComes, DumpMisses, DumpSends, ToldComes, ToldMisses, ToldReads, ToldSends, ToldWrites}
-use Rattle.commands.specs.ShownTalk.{IsUnsent as IsShowUnsent, ShowsTalk}
+use Rattle.commands.specs.ShownTalk.{IsShownUnsent as IsShowUnsent, ShowsTalk}
 use Rattle.commands.specs.declared.dumps.DumpTalk.{DumpTalk}
-use Rattle.commands.specs.declared.told_talk.ToldTalk.{ToldTalk}
+use Rattle.commands.specs.declared.explained_talk.ExplainedTalk.{ExplainedTalk}
 use Rattle.commands.specs.Driven.{DoesGiven, DoesJob, DoesOnNode, DoesOnce, DoesRead, DoesWork, EndsJob, EndsOutput, EndsTalk, HasContents, HoldsLines, HoldsLink, IsApart, IsApartFrom, IsOwn, IsOwnOf, LinkWords, Prints, RefusesOutput, ShowsInput, TalkWords}
 use Rattle.commands.specs.Jobs.{is_dump, made_of, maps_of_job, maps_of_node, placed}
 use Rattle.commands.specs.Notes.{maps_for, reads_dump}
@@ -33,9 +33,9 @@ use Rattle.commands.specs.declared.driver.Left.{Left}
 use Rattle.commands.specs.declared.jobs.Job.{Job}
 use Rattle.commands.specs.declared.jobs.JobEnd.{JobEnd}
 use Rattle.commands.specs.declared.node_jobs.NodeJob.{NodeJob}
-use Rattle.commands.specs.declared.told_files.ToldFiles.{ToldFiles}
+use Rattle.commands.specs.declared.machine_files.MachineFiles.{MachineFiles}
 use Rattle.commands.specs.declared.work.Work.{Work}
-use Rattle.commands.specs.declared.work.Work.TheVariants.{Once, OnNode, Live, Told}
+use Rattle.commands.specs.declared.work.Work.TheVariants.{Once, OnNode, Live, Printed}
 
 -- what a result has that is there
 on_ok : {V X : Type 0} (result : Result V X) (P : Type 0) → IsOk result → OnOk result P → P
@@ -47,7 +47,7 @@ if_ok {V = V} {X = X} result value P is holds = subst (λ (r : Result V X). IfOk
 
 module _ {D T L : Type 0} (desk : DeskWords D T L) where
   -- standard output that was opened, written and closed
-  pub printed : {V X Y : Type 0} (result : Result (Left D) Y) (written : Result V X) (text : List ℕ) (status : Status) (before : D)
+  pub printed : {V X Y : Type 0} (result : Result (Left D) Y) (written : Result V X) (text : List ℕ) (status : ExitStatus) (before : D)
       (first last : Option (List ℕ)) → desk.opens before first → OnOk written (Appends first last text)
       → IfOk result (λ left. EndsOutput desk written status before last left.end left.desk)
       → IfOk result (λ left. Prints desk text status before left.end left.desk)
@@ -67,7 +67,7 @@ module _ {D T L : Type 0} (desk : DeskWords D T L) where
 
   -- a job that was performed, and ended
   pub did_job : {V X Y : Type 0} (result : Result (Left D) Y) (done : Result JobEnd WriteFault) (closed : Result V X) (job : Job)
-      (before : D) (start stop after : ToldFiles D) (first last : Option (List ℕ)) → start.desk ≡ before
+      (before : D) (start stop after : MachineFiles D) (first last : Option (List ℕ)) → start.desk ≡ before
       → reads_dump start.noted ≡ is_dump job → maps_for start.noted ≡ maps_of_job job → desk.opens before first
       → IfOk done (λ own. Performs (ToldReads desk) (ToldWrites desk) job start stop first last own.status)
       → OnOk closed (desk.closes stop.desk last after.desk)
@@ -98,7 +98,7 @@ module _ {D T L : Type 0} (desk : DeskWords D T L) where
 
   -- the line of a file that cannot be written
   pub refused : {Y : Type 0} (result : Result (Left D) Y) (file : Bor (List ℕ)) (before : D)
-      → IfOk result (λ left. Prints desk (fault_line (CannotWrite file)) Failed before left.end left.desk)
+      → IfOk result (λ left. Prints desk (job_fault_line (CannotWrite file)) Failed before left.end left.desk)
       → IfOk result (λ left. RefusesOutput desk file.now before left.end left.desk)
   refused (Ok left) file before prints = (file, refl, prints)
   refused (Err none) file before prints = prints
@@ -143,7 +143,7 @@ module _ {D T L : Type 0} (desk : DeskWords D T L) (E : Type 0) (talk : TalkWord
   did_work words (Once job) before end after asks does = inl (record { work = Once job; named = asks; done = does })
   did_work words (OnNode own) before end after asks does = inl (record { work = OnNode own; named = asks; done = does })
   did_work words (Live held) before end after asks does = inl (record { work = Live held; named = asks; done = does })
-  did_work words (Told text) before end after asks does = inr (inl (record { text = string_bytes text; asked = asks; told = does }))
+  did_work words (Printed text) before end after asks does = inr (inl (record { text = string_bytes text; asked = asks; reported = does }))
 
   -- the same of the words that were given
   pub given_work : {Y : Type 0} (result : Result (Left D) Y) (words given : List Text) (work : Work) (before : D) → words ≡ given
@@ -197,7 +197,7 @@ module _ {D T L : Type 0} (desk : DeskWords D T L) (E : Type 0) (talk : TalkWord
   on_own (Err none) own before name is refuses = refuses
 
   -- the node's file says a configuration
-  pub on_placed : {Y : Type 0} (result : Result (Left D) Y) (own : NodeJob) (before : D) (start stop : ToldFiles D)
+  pub on_placed : {Y : Type 0} (result : Result (Left D) Y) (own : NodeJob) (before : D) (start stop : MachineFiles D)
       (configuration : Configuration) (node : List ℕ) → node ≡ string_bytes own.node
       → IsApartFrom desk node before (made_of own.job) → start.desk ≡ before
       → reads_dump start.noted ≡ false → maps_for start.noted ≡ None
@@ -223,13 +223,13 @@ module _ {D T L : Type 0} (desk : DeskWords D T L) (E : Type 0) (talk : TalkWord
   on_placed (Err none) own before start stop configuration node named apart begun dump maps read does = does
 
   -- it says none
-  pub on_fault : {Y : Type 0} (result : Result (Left D) Y) (own : NodeJob) (before : D) (start stop : ToldFiles D) (fault : Fault)
+  pub on_fault : {Y : Type 0} (result : Result (Left D) Y) (own : NodeJob) (before : D) (start stop : MachineFiles D) (fault : Fault)
       (node : List ℕ) → node ≡ string_bytes own.node → IsApartFrom desk node before (made_of own.job) → start.desk ≡ before
       → reads_dump start.noted ≡ false → maps_for start.noted ≡ None
       → ReadsNoConfiguration (ToldReads desk) node start fault stop
-      → IfOk result (λ left. Prints desk (fault_line fault) Failed stop.desk left.end left.desk)
+      → IfOk result (λ left. Prints desk (job_fault_line fault) Failed stop.desk left.end left.desk)
       → IfOk result (λ left. DoesOnNode desk E talk serves own before left.end left.desk)
-  on_fault (Ok left) own before start stop fault node named apart begun dump maps read told =
+  on_fault (Ok left) own before start stop fault node named apart begun dump maps read reported =
       inl (
         subst (λ (n : List ℕ). IsApartFrom desk n before (made_of own.job)) named apart,
         inr (record {
@@ -240,10 +240,10 @@ module _ {D T L : Type 0} (desk : DeskWords D T L) (E : Type 0) (talk : TalkWord
           dump = dump;
           maps = maps;
           read = subst (λ (n : List ℕ). ReadsNoConfiguration (ToldReads desk) n start fault stop) named read;
-          told = told;
+          reported = reported;
         }),
       )
-  on_fault (Err none) own before start stop fault node named apart begun dump maps read told = told
+  on_fault (Err none) own before start stop fault node named apart begun dump maps read reported = reported
 
 -- what holds of a value, and what of an error
 both : {V X : Type 0} (result : Result V X) (P : V → Type 0) (Q : X → Type 0) → IfOk result P → IfErr result Q → MatchResult result P Q
@@ -252,13 +252,13 @@ both (Err fault) P Q ok err = err
 
 module _ {D T L : Type 0} (desk : DeskWords D T L) (E : Type 0) (talk : TalkWords T) where
   -- lines of standard input were printed in words
-  pub showed : {Y : Type 0} (result : Result (Left D) Y) (done : Result Status WriteFault) (of_dump : Bool) (before after : D)
-      (opened closed : T) (lines dumped : DumpTalk T) (first last : ToldTalk E (DumpTalk T)) → desk.hears before opened
+  pub showed : {Y : Type 0} (result : Result (Left D) Y) (done : Result ExitStatus WriteFault) (of_dump : Bool) (before after : D)
+      (opened closed : T) (lines dumped : DumpTalk T) (first last : ExplainedTalk E (DumpTalk T)) → desk.hears before opened
       → lines.talk ≡ opened → lines.is_dump ≡ of_dump → first.talk ≡ lines
-      → IfOk done (ShowsTalk (ToldComes (DumpComes talk.came)) (ToldSends (DumpSends talk.sent)) (ToldSends (DumpSends talk.unsent))
-      (ToldMisses (DumpMisses talk.came talk.missed)) first last)
-      → IfErr done (IsShowUnsent (ToldComes (DumpComes talk.came)) (ToldSends (DumpSends talk.sent)) (ToldSends (DumpSends talk.unsent))
-      (ToldMisses (DumpMisses talk.came talk.missed)) first last)
+      → IfOk done (ShowsTalk (ToldComes (DumpComes talk.received)) (ToldSends (DumpSends talk.sent)) (ToldSends (DumpSends talk.unsent))
+      (ToldMisses (DumpMisses talk.received talk.missed)) first last)
+      → IfErr done (IsShowUnsent (ToldComes (DumpComes talk.received)) (ToldSends (DumpSends talk.sent)) (ToldSends (DumpSends talk.unsent))
+      (ToldMisses (DumpMisses talk.received talk.missed)) first last)
       → dumped ≡ last.talk → closed ≡ dumped.talk → desk.ends before closed after
       → IfOk result (λ left. EndsTalk desk done left.end) → IfOk result (λ left. left.desk ≡ after)
       → IfOk result (λ left. ShowsInput desk E talk of_dump before left.end left.desk)
@@ -279,13 +279,13 @@ module _ {D T L : Type 0} (desk : DeskWords D T L) (E : Type 0) (talk : TalkWord
       ended
 
   -- a talk in lines was held
-  pub held_lines : {Y : Type 0} (result : Result (Left D) Y) (done : Result Status WriteFault) (words : LiveWords) (before between after : D)
-      (opened closed : T) (start stop : ToldFiles D) (first last : ToldTalk E T) → start.desk ≡ before
+  pub held_lines : {Y : Type 0} (result : Result (Left D) Y) (done : Result ExitStatus WriteFault) (words : LiveWords) (before between after : D)
+      (opened closed : T) (start stop : MachineFiles D) (first last : ExplainedTalk E T) → start.desk ≡ before
       → reads_dump start.noted ≡ false → maps_for start.noted ≡ Some (maps_of_node words.node) → desk.hears before opened
       → first.talk ≡ opened
-      → IfOk done (Lives (ToldReads desk) (ToldComes talk.came) (ToldSends talk.sent) (ToldSends talk.unsent) (ToldMisses talk.missed)
+      → IfOk done (Lives (ToldReads desk) (ToldComes talk.received) (ToldSends talk.sent) (ToldSends talk.unsent) (ToldMisses talk.missed)
       words start stop first last)
-      → IfErr done (IsUnsent (ToldReads desk) (ToldComes talk.came) (ToldSends talk.sent) (ToldSends talk.unsent) (ToldMisses talk.missed)
+      → IfErr done (IsUnsent (ToldReads desk) (ToldComes talk.received) (ToldSends talk.sent) (ToldSends talk.unsent) (ToldMisses talk.missed)
       words start stop first last)
       → between ≡ stop.desk → closed ≡ last.talk → desk.ends between closed after
       → IfOk result (λ left. EndsTalk desk done left.end) → IfOk result (λ left. left.desk ≡ after)
@@ -312,12 +312,12 @@ module _ {D T L : Type 0} (desk : DeskWords D T L) (E : Type 0) (talk : TalkWord
 
 module _ {D T L : Type 0} (desk : DeskWords D T L) (E : Type 0) (talk : TalkWords T) (serves : Bool) (link : LinkWords L) where
   -- a link was held
-  pub held_link : {Y : Type 0} (result : Result (Left D) Y) (done : Result Status WriteFault) (words : LiveWords) (before between after : D)
-      (start stop : ToldFiles D) (first last : L) → start.desk ≡ before → reads_dump start.noted ≡ false
+  pub held_link : {Y : Type 0} (result : Result (Left D) Y) (done : Result ExitStatus WriteFault) (words : LiveWords) (before between after : D)
+      (start stop : MachineFiles D) (first last : L) → start.desk ≡ before → reads_dump start.noted ≡ false
       → maps_for start.noted ≡ Some (maps_of_node words.node) → desk.links before first
-      → IfOk done (LivesFrames (ToldReads desk) link.came link.sent link.told link.unread link.unsent link.untold words link.lost start stop
+      → IfOk done (LivesFrames (ToldReads desk) link.received link.sent link.reported link.unread link.unsent link.unreported words link.lost start stop
       first last)
-      → IfErr done (IsFramesUnsent (ToldReads desk) link.came link.sent link.told link.unread link.unsent link.untold words start stop first
+      → IfErr done (IsFramesUnsent (ToldReads desk) link.received link.sent link.reported link.unread link.unsent link.unreported words start stop first
       last)
       → between ≡ stop.desk → desk.unlinks between last after
       → IfOk result (λ left. EndsTalk desk done left.end) → IfOk result (λ left. left.desk ≡ after)

@@ -8,9 +8,9 @@ use Rattle.clap.specs.Values.{kind_of}
 use Rattle.clap.proofs.OnLiterals.{clap_on_literals}
 use Rattle.clap.specs.declared.error.kind.ErrorKind.TheVariants.{OutOfMemory}
 use Rattle.clap.specs.declared.error.Error.{Error}
-use Rattle.commands.specs.CommandLine.{rmapctl_app, subcommand_in, AreTaken, Names, NamesNone, IsIncomplete, IsSpoiled, LacksWork, Refuses, Spoils, TellsRefusal}
-use Rattle.commands.specs.Words.{IsNoWord, name_of}
-use Rattle.commands.specs.declared.word.Word.{Word}
+use Rattle.commands.specs.CommandLine.{rmapctl_app, subcommand_in, AreWordsTaken, Names, NamesNone, IsIncomplete, IsSpoiled, LacksWork, RefusesMatches, Spoils, ReportsRefusal}
+use Rattle.commands.specs.Words.{IsNoWord, name_of_word}
+use Rattle.commands.specs.declared.word.SubcommandWord.{SubcommandWord}
 use Rattle.commands.specs.declared.work.Work.{Work}
 use Rattle.commands.proofs.Apart.{one_word}
 use Rattle.job_parts.specs.declared.usage.UsageFault.{UsageFault}
@@ -25,7 +25,7 @@ unfolding clap_on_literals rmapctl_app
 is_free-rmapctl_app = refl
 
 -- a fault of the matches of words that clap takes is one of the words
-pub lacks_work : (words : List Text) (fault : UsageFault) → AreTaken words → LacksWork (subcommand_in words) fault → NamesNone words fault
+pub lacks_work : (words : List Text) (fault : UsageFault) → AreWordsTaken words → LacksWork (subcommand_in words) fault → NamesNone words fault
 lacks_work words (Parse text) taken h = absurd h
 lacks_work words BadOption taken h = (taken, h)
 lacks_work words Memory taken h = h
@@ -36,30 +36,30 @@ has_kind kinds e other (inl h) none = other h
 has_kind kinds e other (inr h) none = subst (IsAmong (kind_of e)) none h
 
 -- what is printed of a refusal is a fault of the words
-pub refused_words : (words : List Text) (e : Error) (fault : UsageFault) → TellsRefusal (kind_of e) fault
+pub refused_words : (words : List Text) (e : Error) (fault : UsageFault) → ReportsRefusal (kind_of e) fault
     → HasKind (fault_of rmapctl_app words) e → NamesNone words fault
-refused_words words e (Parse text) told h = has_kind _ e told h
-refused_words words e BadOption told h = absurd told
-refused_words words e Memory told h = told
+refused_words words e (Parse text) reported h = has_kind _ e reported h
+refused_words words e BadOption reported h = absurd reported
+refused_words words e Memory reported h = reported
 
 -- the subcommand that clap found, of a word that is written as its name
-found_by : (found : Option (Text × List Row)) (name : Text) (rows : List Row) (named : Word)
-    → found ≡ Some (name, rows) → name ≡ name_of named → found ≡ Some (name_of named, rows)
+found_by : (found : Option (Text × List Row)) (name : Text) (rows : List Row) (named : SubcommandWord)
+    → found ≡ Some (name, rows) → name ≡ name_of_word named → found ≡ Some (name_of_word named, rows)
 found_by found name rows named is written = is ∙ ap (λ text. Some (text, rows)) written
 
 -- its matches name the work
-pub names_work : (found : Option (Text × List Row)) (name : Text) (rows : List Row) (named : Word) (work : Work)
-    → found ≡ Some (name, rows) → name ≡ name_of named → Names (Some (name_of named, rows)) work → Names found work
+pub names_work : (found : Option (Text × List Row)) (name : Text) (rows : List Row) (named : SubcommandWord) (work : Work)
+    → found ≡ Some (name, rows) → name ≡ name_of_word named → Names (Some (name_of_word named, rows)) work → Names found work
 names_work found name rows named work is written names =
     subst (λ it. Names it work) (sym (found_by found name rows named is written)) names
 
 -- they lack what the subcommand of its word lacks
-spoils_one : (rows : List Row) (named : Word) → Spoils named rows → IsSpoiled (name_of named, rows)
+spoils_one : (rows : List Row) (named : SubcommandWord) → Spoils named rows → IsSpoiled (name_of_word named, rows)
 spoils_one rows named spoils other same = subst (λ it. Spoils it rows) (one_word named other same) spoils
 
 -- they name no work
-pub lacks_named : (found : Option (Text × List Row)) (name : Text) (rows : List Row) (named : Word) (fault : UsageFault)
-    → found ≡ Some (name, rows) → name ≡ name_of named → Refuses named rows fault → LacksWork found fault
+pub lacks_named : (found : Option (Text × List Row)) (name : Text) (rows : List Row) (named : SubcommandWord) (fault : UsageFault)
+    → found ≡ Some (name, rows) → name ≡ name_of_word named → RefusesMatches named rows fault → LacksWork found fault
 lacks_named found name rows named Memory is written refuses = tt
 lacks_named found name rows named BadOption is written refuses =
     subst IsIncomplete (sym (found_by found name rows named is written)) (spoils_one rows named refuses)

@@ -32,13 +32,13 @@ use Rattle.commands.specs.declared.jobs.Job.{Job}
 use Rattle.commands.specs.declared.jobs.Job.TheVariants.{Judge, Serve, Simulate, Trace, Assemble, Disassemble}
 use Rattle.commands.specs.declared.jobs.Job.TheVariants.{Verify, Policy, Explain, Why, Weigh, Node, Packet, Show}
 use Rattle.commands.specs.declared.jobs.Job.TheVariants.{Decide, Compare, Map, Rehearse, Suite}
-use Rattle.commands.specs.OnNodes.{are_left, own_file, with_node}
+use Rattle.commands.specs.OnNodes.{are_left, own_file, with_node_option}
 use Rattle.commands.specs.OneInput.{reads_input_twice}
-use Rattle.commands.specs.Words.{name_of}
-use Rattle.commands.specs.declared.word.Word.{Word}
-use Rattle.commands.specs.declared.word.Word.TheVariants as word
+use Rattle.commands.specs.Words.{name_of_word}
+use Rattle.commands.specs.declared.word.SubcommandWord.{SubcommandWord}
+use Rattle.commands.specs.declared.word.SubcommandWord.TheVariants as word
 use Rattle.commands.specs.declared.work.Work.{Work}
-use Rattle.commands.specs.declared.work.Work.TheVariants.{Once, OnNode, Live, Told}
+use Rattle.commands.specs.declared.work.Work.TheVariants.{Once, OnNode, Live, Printed}
 use Rattle.job_parts.specs.declared.usage.UsageFault.{UsageFault}
 use Rattle.job_parts.specs.declared.usage.UsageFault.TheVariants.{Parse, BadOption, Memory}
 
@@ -55,21 +55,21 @@ rmapctl_shape s = record s {
 abbrev pub with_first_jobs : App → App
 with_first_jobs app =
     with_subcommand (with_subcommand
-    (with_subcommand (with_subcommand (with_subcommand app asm_app.top) dis_app.top) (with_node verify_app).top)
-    judge_app.top) (with_node policy_app).top
+    (with_subcommand (with_subcommand (with_subcommand app asm_app.top) dis_app.top) (with_node_option verify_app).top)
+    judge_app.top) (with_node_option policy_app).top
 
 -- a command with the jobs that print more of packet lines, and the one on the rules of a table, after others
 abbrev pub with_packet_jobs : App → App
 with_packet_jobs app =
     with_subcommand (with_subcommand
-    (with_subcommand (with_subcommand app (with_node packet_app).top) show_app.top) (with_node decide_app).top)
+    (with_subcommand (with_subcommand app (with_node_option packet_app).top) show_app.top) (with_node_option decide_app).top)
     trace_app.top
 
 -- a command with the jobs before a load, and the one that tries a target, after others
 abbrev pub with_chart_jobs : App → App
 with_chart_jobs app =
     with_subcommand (with_subcommand (with_subcommand
-    (with_subcommand app (with_node compare_app).top) (with_node map_app).top) rehearse_app.top) suite_app.top
+    (with_subcommand app (with_node_option compare_app).top) (with_node_option map_app).top) rehearse_app.top) suite_app.top
 
 -- `rmapctl` with its subcommands
 unfoldable pub rmapctl_app : App
@@ -78,7 +78,7 @@ rmapctl_app =
     (with_packet_jobs
     (with_subcommand (with_subcommand (with_subcommand (with_subcommand (with_subcommand
     (with_subcommand (with_subcommand (with_first_jobs (on_top rmapctl_shape (new_app (codes "rmapctl"))))
-    serve_app.top) sim_app.top) live_app.top) explain_app.top) (with_node why_app).top) (with_node weigh_app).top)
+    serve_app.top) sim_app.top) live_app.top) explain_app.top) (with_node_option why_app).top) (with_node_option weigh_app).top)
     node_file_app.top))
 
 -- the subcommand that clap finds in the words, with its matches
@@ -108,37 +108,37 @@ NamesPlain found (Once (Rehearse words)) = (found.0 ≡ codes "rehearse") × Nam
 NamesPlain found (Once (Suite words)) = (found.0 ≡ codes "suite") × NamesSuite found.1 words
 NamesPlain found (OnNode own) = ⊥
 NamesPlain found (Live words) = (found.0 ≡ codes "live") × NamesLive found.1 words
-NamesPlain found (Told text) = ⊥
+NamesPlain found (Printed text) = ⊥
 
 -- the work is the job, or the job for the node of the file that its matches name. They leave to that file what it says
-abbrev pub IsPlacedBy : Job → List Row → Work → Type 0
-IsPlacedBy job rows (Once own) = (own ≡ job) × (own_file job rows ≡ None)
-IsPlacedBy job rows (OnNode own) =
+abbrev pub IsNodeJobOf : Job → List Row → Work → Type 0
+IsNodeJobOf job rows (Once own) = (own ≡ job) × (own_file job rows ≡ None)
+IsNodeJobOf job rows (OnNode own) =
     (own.job ≡ job) × (own_file job rows ≡ Some (string_bytes own.node)) × (are_left rows ≡ true)
-IsPlacedBy job rows (Live words) = ⊥
-IsPlacedBy job rows (Told text) = ⊥
+IsNodeJobOf job rows (Live words) = ⊥
+IsNodeJobOf job rows (Printed text) = ⊥
 
 -- the work is that of the subcommand with its matches, whatever of it is standard input
 abbrev pub NamesPlaced : Option (Text × List Row) → Work → Type 0
 NamesPlaced None work = ⊥
-NamesPlaced (Some found) (Once job) = NamesPlain found (Once job) × IsPlacedBy job found.1 (Once job)
-NamesPlaced (Some found) (OnNode own) = NamesPlain found (Once own.job) × IsPlacedBy own.job found.1 (OnNode own)
+NamesPlaced (Some found) (Once job) = NamesPlain found (Once job) × IsNodeJobOf job found.1 (Once job)
+NamesPlaced (Some found) (OnNode own) = NamesPlain found (Once own.job) × IsNodeJobOf own.job found.1 (OnNode own)
 NamesPlaced (Some found) (Live words) = NamesPlain found (Live words)
-NamesPlaced (Some found) (Told text) = ⊥
+NamesPlaced (Some found) (Printed text) = ⊥
 
 -- the work is that of the subcommand with its matches, and no two of its files are standard input
 abbrev pub Names : Option (Text × List Row) → Work → Type 0
 Names found work = NamesPlaced found work × (reads_input_twice work ≡ false)
 
 -- what is printed of a refusal by clap of this kind
-abbrev pub TellsRefusal : ErrorKind → UsageFault → Type 0
-TellsRefusal kind Memory = Unit {0}
-TellsRefusal kind BadOption = ⊥
-TellsRefusal kind (Parse text) = kind ≢ OutOfMemory
+abbrev pub ReportsRefusal : ErrorKind → UsageFault → Type 0
+ReportsRefusal kind Memory = Unit {0}
+ReportsRefusal kind BadOption = ⊥
+ReportsRefusal kind (Parse text) = kind ≢ OutOfMemory
 
 -- the subcommand of this word lacks a file that must be given, or has words of no packet. Or it has an option or a code
 -- with a value that it may not have
-abbrev pub SpoilsPlain : Word → List Row → Type 0
+abbrev pub SpoilsPlain : SubcommandWord → List Row → Type 0
 SpoilsPlain word.Asm rows = (first_of (codes "text") rows ≡ None) ⊎ (first_of (codes "image") rows ≡ None)
 SpoilsPlain word.Dis rows = first_of (codes "image") rows ≡ None
 SpoilsPlain word.Verify rows = SpoilsImage rows
@@ -161,26 +161,26 @@ SpoilsPlain word.Rehearse rows = SpoilsRehearse rows
 SpoilsPlain word.Suite rows = SpoilsSuite rows
 
 -- a node's file is named, beside an option that says what the file says
-abbrev pub SpoilsPlace : List Row → Type 0
-SpoilsPlace rows = (lacks (codes "node") rows ≡ false) × (are_left rows ≡ false)
+abbrev pub SpoilsNodeFile : List Row → Type 0
+SpoilsNodeFile rows = (lacks (codes "node") rows ≡ false) × (are_left rows ≡ false)
 
 -- the work of the subcommand of this word would read standard input for two of its files
-pub record SpoilsInput (named : Word) (rows : List Row) : Type 0 where
+pub record SpoilsInput (named : SubcommandWord) (rows : List Row) : Type 0 where
   pub work : Work
-  pub names : NamesPlaced (Some (name_of named, rows)) work
+  pub names : NamesPlaced (Some (name_of_word named, rows)) work
   pub twice : reads_input_twice work ≡ true
 
 -- the one or the other
-abbrev pub SpoilsPlaced : Word → List Row → Type 0
-SpoilsPlaced named rows = SpoilsPlain named rows ⊎ SpoilsPlace rows
+abbrev pub SpoilsPlaced : SubcommandWord → List Row → Type 0
+SpoilsPlaced named rows = SpoilsPlain named rows ⊎ SpoilsNodeFile rows
 
 -- the same, or standard input is named for two files
-abbrev pub Spoils : Word → List Row → Type 0
+abbrev pub Spoils : SubcommandWord → List Row → Type 0
 Spoils named rows = SpoilsPlaced named rows ⊎ SpoilsInput named rows
 
 -- so does the subcommand with its matches
 abbrev pub IsSpoiled : Text × List Row → Type 0
-IsSpoiled found = (named : Word) → found.0 ≡ name_of named → Spoils named found.1
+IsSpoiled found = (named : SubcommandWord) → found.0 ≡ name_of_word named → Spoils named found.1
 
 -- clap found no subcommand, or one without what it needs
 abbrev pub IsIncomplete : Option (Text × List Row) → Type 0
@@ -188,28 +188,28 @@ IsIncomplete None = Unit {0}
 IsIncomplete (Some found) = IsSpoiled found
 
 -- the matches of the subcommand of this word name no job and no talk, or memory was refused
-abbrev pub RefusesPlain : Word → List Row → UsageFault → Type 0
+abbrev pub RefusesPlain : SubcommandWord → List Row → UsageFault → Type 0
 RefusesPlain named rows Memory = Unit {0}
 RefusesPlain named rows BadOption = SpoilsPlain named rows
 RefusesPlain named rows (Parse text) = ⊥
 
 -- the matches name a node's file beside an option that says what the file says, or memory was refused
-abbrev pub RefusesPlace : List Row → UsageFault → Type 0
-RefusesPlace rows Memory = Unit {0}
-RefusesPlace rows BadOption = SpoilsPlace rows
-RefusesPlace rows (Parse text) = ⊥
+abbrev pub RefusesNodeFile : List Row → UsageFault → Type 0
+RefusesNodeFile rows Memory = Unit {0}
+RefusesNodeFile rows BadOption = SpoilsNodeFile rows
+RefusesNodeFile rows (Parse text) = ⊥
 
 -- the same of one or the other
-abbrev pub RefusesPlaced : Word → List Row → UsageFault → Type 0
+abbrev pub RefusesPlaced : SubcommandWord → List Row → UsageFault → Type 0
 RefusesPlaced named rows Memory = Unit {0}
 RefusesPlaced named rows BadOption = SpoilsPlaced named rows
 RefusesPlaced named rows (Parse text) = ⊥
 
 -- the matches of the subcommand of this word name no work, or memory was refused
-abbrev pub Refuses : Word → List Row → UsageFault → Type 0
-Refuses named rows Memory = Unit {0}
-Refuses named rows BadOption = Spoils named rows
-Refuses named rows (Parse text) = ⊥
+abbrev pub RefusesMatches : SubcommandWord → List Row → UsageFault → Type 0
+RefusesMatches named rows Memory = Unit {0}
+RefusesMatches named rows BadOption = Spoils named rows
+RefusesMatches named rows (Parse text) = ⊥
 
 -- the matches name no work, or memory was refused
 abbrev pub LacksWork : Option (Text × List Row) → UsageFault → Type 0
@@ -218,18 +218,18 @@ LacksWork found BadOption = IsIncomplete found
 LacksWork found (Parse text) = ⊥
 
 -- clap takes the words: its definition finds no fault in them
-abbrev pub AreTaken : List Text → Type 0
-AreTaken words = fault_of rmapctl_app words ≡ []
+abbrev pub AreWordsTaken : List Text → Type 0
+AreWordsTaken words = fault_of rmapctl_app words ≡ []
 
 -- the words name the work: clap takes them, and the subcommand that it finds names it
 abbrev pub NamesWork : List Text → Work → Type 0
-NamesWork words work = AreTaken words × Names (subcommand_in words) work
+NamesWork words work = AreWordsTaken words × Names (subcommand_in words) work
 
 -- the words name no work: clap refuses them, or takes them and what it finds is incomplete, or memory was refused
 abbrev pub NamesNone : List Text → UsageFault → Type 0
 NamesNone words Memory = Unit {0}
-NamesNone words BadOption = AreTaken words × IsIncomplete (subcommand_in words)
-NamesNone words (Parse text) = ¬ AreTaken words
+NamesNone words BadOption = AreWordsTaken words × IsIncomplete (subcommand_in words)
+NamesNone words (Parse text) = ¬ AreWordsTaken words
 
 -- the words begin with `help`
 abbrev pub ask_help : List Text → Bool
@@ -238,14 +238,14 @@ ask_help (first ∷ others) = bytes_eq first (codes "help")
 
 -- the words ask for a text, and name no work: they begin with `help`, or clap refuses them
 abbrev pub AskText : List Text → Type 0
-AskText words = (ask_help words ≡ true) ⊎ (¬ AreTaken words)
+AskText words = (ask_help words ≡ true) ⊎ (¬ AreWordsTaken words)
 
 -- words ask for the work that they name, or for a text if they name none
 abbrev pub AsksFor : List Text → Work → Type 0
 AsksFor words (Once job) = NamesWork words (Once job)
 AsksFor words (OnNode own) = NamesWork words (OnNode own)
 AsksFor words (Live talk) = NamesWork words (Live talk)
-AsksFor words (Told text) = AskText words
+AsksFor words (Printed text) = AskText words
 
 -- words ask for nothing: they name no work, or no text
 abbrev pub AsksNone : List Text → UsageFault → Type 0
@@ -258,4 +258,4 @@ abbrev pub waits : Work → (without_words : Bool) → Bool
 waits (Live words) without_words = not words.frames || without_words
 waits (Once job) without_words = without_words
 waits (OnNode own) without_words = without_words
-waits (Told text) without_words = false
+waits (Printed text) without_words = false

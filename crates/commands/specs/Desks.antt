@@ -1,19 +1,19 @@
 -- What a command line is done over.
 use Rattle.std.specs.Prelude.{◌≡◌, ◌⊎◌, ◌++◌, ℕ, Bool, true, false, List, Option, Some, None, codes, option_map}
-use Rattle.job_live.specs.Talking.{Comes, Misses, Sends}
-use Rattle.job_parts.specs.Files.{Reads, Writes}
+use Rattle.job_live.specs.Talking.{ComesLine, Misses, Sends}
+use Rattle.job_parts.specs.Files.{ReadsFile, WritesFile}
 use Rattle.commands.specs.Notes.{GivesPlaced, maps_for, next_content, reads_dump}
 use Rattle.commands.specs.declared.dumps.DumpTalk.{DumpTalk}
-use Rattle.commands.specs.declared.noted.Noted.{Noted}
-use Rattle.commands.specs.declared.told_files.ToldFiles.{ToldFiles}
-use Rattle.commands.specs.declared.told_talk.ToldTalk.{ToldTalk}
+use Rattle.commands.specs.declared.noted.FileNotes.{FileNotes}
+use Rattle.commands.specs.declared.machine_files.MachineFiles.{MachineFiles}
+use Rattle.commands.specs.declared.explained_talk.ExplainedTalk.{ExplainedTalk}
 
 -- what a desk says of its files, of standard input and of standard output
 pub record DeskWords (D T L : Type 0) : Type 1 where
   -- what a read of a name gave, between the state before and the state after
-  pub reads : Reads D
+  pub reads : ReadsFile D
   -- what a write of a name was given, and whether it was taken
-  pub writes : Writes D
+  pub writes : WritesFile D
   -- whether two names are of one file, as the desk says
   pub are_one : D → (one other : List ℕ) → Bool → Type 0
   -- what a writer has that standard output is made anew
@@ -35,7 +35,7 @@ pub record DeskWords (D T L : Type 0) : Type 1 where
 
 module _ {D T L : Type 0} (words : DeskWords D T L) where
   -- what a file gives of what the desk has of it: none, or the bytes that are given for it
-  abbrev pub GivesTold : Noted → (before : D) → (name : List ℕ) → (given : Option (List ℕ)) → (after : D) → Type 0
+  abbrev pub GivesTold : FileNotes → (before : D) → (name : List ℕ) → (given : Option (List ℕ)) → (after : D) → Type 0
   GivesTold noted before name None after =
       words.reads before name None after ⊎ ((bytes : List ℕ) × words.reads before name (Some bytes) after)
   GivesTold noted before name (Some given) after =
@@ -44,13 +44,13 @@ module _ {D T L : Type 0} (words : DeskWords D T L) where
 
   -- a read of a job reads once of the desk. Of the text of a program or a table in the place of an image it gives the
   -- image. Of a dump it gives packet lines, of which nothing is said
-  pub record ToldReads (before : ToldFiles D) (name : List ℕ) (given : Option (List ℕ)) (after : ToldFiles D) : Type 0 where
+  pub record ToldReads (before : MachineFiles D) (name : List ℕ) (given : Option (List ℕ)) (after : MachineFiles D) : Type 0 where
     pub dump : reads_dump after.noted ≡ reads_dump before.noted
     pub maps : maps_for after.noted ≡ maps_for before.noted
     pub gave : GivesTold before.noted before.desk name given after.desk
 
   -- a write of a job is one of the desk
-  pub record ToldWrites (before : ToldFiles D) (name bytes : List ℕ) (is_taken : Bool) (after : ToldFiles D) : Type 0 where
+  pub record ToldWrites (before : MachineFiles D) (name bytes : List ℕ) (is_taken : Bool) (after : MachineFiles D) : Type 0 where
     pub dump : reads_dump after.noted ≡ reads_dump before.noted
     pub maps : maps_for after.noted ≡ maps_for before.noted
     pub took : words.writes before.desk name bytes is_taken after.desk
@@ -62,15 +62,15 @@ module _ {D T L : Type 0} (words : DeskWords D T L) where
 
 module _ {E T : Type 0} where
   -- a line comes to a talk beside which faults are printed
-  abbrev pub ToldComes : Comes T → Comes (ToldTalk E T)
-  ToldComes came before line after = came before.talk line after.talk
+  abbrev pub ToldComes : ComesLine T → ComesLine (ExplainedTalk E T)
+  ToldComes received before line after = received before.talk line after.talk
 
   -- a text is sent there, or is not
-  abbrev pub ToldSends : Sends T → Sends (ToldTalk E T)
+  abbrev pub ToldSends : Sends T → Sends (ExplainedTalk E T)
   ToldSends sent before text after = sent before.talk text after.talk
 
   -- no line could be read there
-  abbrev pub ToldMisses : Misses T → Misses (ToldTalk E T)
+  abbrev pub ToldMisses : Misses T → Misses (ExplainedTalk E T)
   ToldMisses missed before after = missed before.talk after.talk
 
 -- the packet line of a line of a dump: that of port 0, whose packet ends in EOP
@@ -84,9 +84,9 @@ line_of true line = option_map packet_line line
 
 module _ {T : Type 0} where
   -- a line came to a talk whose lines may be those of a dump: then its packet line is given
-  pub record DumpComes (came : Comes T) (before : DumpTalk T) (line : Option (List ℕ)) (after : DumpTalk T) : Type 0 where
+  pub record DumpComes (received : ComesLine T) (before : DumpTalk T) (line : Option (List ℕ)) (after : DumpTalk T) : Type 0 where
     pub own : Option (List ℕ)
-    pub own_came : came before.talk own after.talk
+    pub own_came : received before.talk own after.talk
     pub is : line ≡ line_of before.is_dump own
     pub dump : after.is_dump ≡ before.is_dump
 
@@ -95,6 +95,6 @@ module _ {T : Type 0} where
   DumpSends sent before text after = sent before.talk text after.talk × (after.is_dump ≡ before.is_dump)
 
   -- no line could be read there; or one came, and memory was refused to its packet line
-  abbrev pub DumpMisses : Comes T → Misses T → Misses (DumpTalk T)
-  DumpMisses came missed before after =
-      missed before.talk after.talk ⊎ ((line : Option (List ℕ)) × came before.talk line after.talk)
+  abbrev pub DumpMisses : ComesLine T → Misses T → Misses (DumpTalk T)
+  DumpMisses received missed before after =
+      missed before.talk after.talk ⊎ ((line : Option (List ℕ)) × received before.talk line after.talk)

@@ -9,14 +9,14 @@ use Rattle.job_config.specs.Reads.{ReadsConfiguration, ReadsNoConfiguration}
 use Rattle.job_config.specs.declared.configuration.Configuration.{Configuration}
 use Rattle.job_frames.specs.FramesJob.{IsFramesUnsent, LivesFrames}
 use Rattle.job_live.specs.LiveJob.{IsUnsent, Lives}
-use Rattle.job_live.specs.Talking.{Comes, Misses, Sends}
+use Rattle.job_live.specs.Talking.{ComesLine, Misses, Sends}
 use Rattle.job_live.specs.declared.words.LiveWords.{LiveWords}
-use Rattle.job_parts.specs.Printed.{fault_line}
-use Rattle.job_parts.specs.Statuses.{status_code, usage_status}
+use Rattle.job_parts.specs.Printed.{job_fault_line}
+use Rattle.job_parts.specs.Statuses.{exit_code, usage_status}
 use Rattle.job_parts.specs.declared.faults.Fault.{Fault}
 use Rattle.job_parts.specs.declared.faults.Fault.TheVariants.{CannotWrite}
-use Rattle.job_parts.specs.declared.status.Status.{Status}
-use Rattle.job_parts.specs.declared.status.Status.TheVariants.{Done, Failed, Misused}
+use Rattle.job_parts.specs.declared.status.ExitStatus.{ExitStatus}
+use Rattle.job_parts.specs.declared.status.ExitStatus.TheVariants.{Done, Failed, Misused}
 use Rattle.job_parts.specs.declared.stops.WriteFault.{WriteFault}
 use Rattle.job_parts.specs.declared.usage.UsageFault.{UsageFault}
 use Rattle.commands.specs.CommandLine.{AskText, AsksNone, NamesWork}
@@ -24,47 +24,47 @@ use Rattle.commands.specs.Desks.{DeskWords, DumpComes, DumpMisses, DumpSends, Lo
 use Rattle.commands.specs.Jobs.{facts_of, is_dump, made_of, maps_of_job, maps_of_node, placed}
 use Rattle.commands.specs.Notes.{maps_for, reads_dump}
 use Rattle.commands.specs.Performed.{Performs}
-use Rattle.commands.specs.ShownTalk.{IsUnsent as IsShowUnsent, ShowsTalk}
+use Rattle.commands.specs.ShownTalk.{IsShownUnsent as IsShowUnsent, ShowsTalk}
 use Rattle.commands.specs.declared.driver.End.{End}
 use Rattle.commands.specs.declared.driver.End.TheVariants.{Ended, LeftOut}
 use Rattle.commands.specs.declared.dumps.DumpTalk.{DumpTalk}
 use Rattle.commands.specs.declared.jobs.Job.{Job}
 use Rattle.commands.specs.declared.jobs.JobEnd.{JobEnd}
 use Rattle.commands.specs.declared.node_jobs.NodeJob.{NodeJob}
-use Rattle.commands.specs.declared.told_files.ToldFiles.{ToldFiles}
-use Rattle.commands.specs.declared.told_talk.ToldTalk.{ToldTalk}
+use Rattle.commands.specs.declared.machine_files.MachineFiles.{MachineFiles}
+use Rattle.commands.specs.declared.explained_talk.ExplainedTalk.{ExplainedTalk}
 use Rattle.commands.specs.declared.work.Work.{Work}
-use Rattle.commands.specs.declared.work.Work.TheVariants.{Once, OnNode, Live, Told}
+use Rattle.commands.specs.declared.work.Work.TheVariants.{Once, OnNode, Live, Printed}
 
 -- what a talk says of itself
 pub record TalkWords (T : Type 0) : Type 1 where
-  pub came : Comes T
+  pub received : ComesLine T
   pub sent : Sends T
   pub unsent : Sends T
   pub missed : Misses T
 
 -- these are what it says
-abbrev pub talk_words : {T : Type 0} → Comes T → (sent unsent : Sends T) → Misses T → TalkWords T
-talk_words came sent unsent missed = record { came = came; sent = sent; unsent = unsent; missed = missed }
+abbrev pub talk_words : {T : Type 0} → ComesLine T → (sent unsent : Sends T) → Misses T → TalkWords T
+talk_words received sent unsent missed = record { received = received; sent = sent; unsent = unsent; missed = missed }
 
 -- what a link says of itself
 pub record LinkWords (L : Type 0) : Type 1 where
-  pub came : Sends L
+  pub received : Sends L
   pub sent : Sends L
-  pub told : Sends L
+  pub reported : Sends L
   pub unread : Misses L
   pub unsent : Sends L
-  pub untold : Sends L
+  pub unreported : Sends L
   pub lost : L → Bool
 
 -- these are what it says
-abbrev pub link_words : {L : Type 0} → (came sent told : Sends L) → Misses L → (unsent untold : Sends L) → (L → Bool) → LinkWords L
-link_words came sent told unread unsent untold lost =
-    record { came = came; sent = sent; told = told; unread = unread; unsent = unsent; untold = untold; lost = lost }
+abbrev pub link_words : {L : Type 0} → (received sent reported : Sends L) → Misses L → (unsent unreported : Sends L) → (L → Bool) → LinkWords L
+link_words received sent reported unread unsent unreported lost =
+    record { received = received; sent = sent; reported = reported; unread = unread; unsent = unsent; unreported = unreported; lost = lost }
 
 -- the number of an end
 abbrev pub end_code : End → ℕ
-end_code (Ended status) = status_code status
+end_code (Ended status) = exit_code status
 end_code LeftOut = 3
 
 -- a job that starts threads is left out by who has none
@@ -85,18 +85,18 @@ module _ {D T L : Type 0} (desk : DeskWords D T L) where
     pub closed : desk.closes before last after
 
   -- standard output ends with this status, if what was written was written, and it is what it has. Or output was lost
-  abbrev pub EndsOutput : {V X : Type 0} → (written : Result V X) → Status → (before : D) → Option (List ℕ) → End → (after : D) → Type 0
+  abbrev pub EndsOutput : {V X : Type 0} → (written : Result V X) → ExitStatus → (before : D) → Option (List ℕ) → End → (after : D) → Type 0
   EndsOutput written status before last end after =
       ((end ≡ Ended status) × IsOk written × desk.closes before last after) ⊎ LosesOutput end
 
   -- a text was printed, and it ends with this status; or output was lost
-  abbrev pub Prints : (text : List ℕ) → Status → (before : D) → End → (after : D) → Type 0
+  abbrev pub Prints : (text : List ℕ) → ExitStatus → (before : D) → End → (after : D) → Type 0
   Prints text status before end after = ((end ≡ Ended status) × WritesText text before after) ⊎ LosesOutput end
 
   -- a job was done over the files, with what it promises, and standard output is what it printed
-  pub record PerformsJob (job : Job) (before : D) (status : Status) (after : D) : Type 0 where
-    pub start : ToldFiles D
-    pub stop : ToldFiles D
+  pub record PerformsJob (job : Job) (before : D) (status : ExitStatus) (after : D) : Type 0 where
+    pub start : MachineFiles D
+    pub stop : MachineFiles D
     pub closed : D
     pub first : Option (List ℕ)
     pub last : Option (List ℕ)
@@ -117,12 +117,12 @@ module _ {D T L : Type 0} (desk : DeskWords D T L) where
   -- the same, and it ends with that status; or output was lost
   abbrev pub DoesJob : Job → (before : D) → End → (after : D) → Type 0
   DoesJob job before end after =
-      ((status : Status) × (end ≡ Ended status) × PerformsJob job before status after) ⊎ LosesOutput end
+      ((status : ExitStatus) × (end ≡ Ended status) × PerformsJob job before status after) ⊎ LosesOutput end
 
   -- a job would write to the file of this name: that was printed, and nothing was done
   abbrev pub RefusesOutput : (name : List ℕ) → (before : D) → End → (after : D) → Type 0
   RefusesOutput name before end after =
-      (file : Bor (List ℕ)) × (file.now ≡ name) × Prints (fault_line (CannotWrite file)) Failed before end after
+      (file : Bor (List ℕ)) × (file.now ≡ name) × Prints (job_fault_line (CannotWrite file)) Failed before end after
 
   -- no file is made of itself
   abbrev pub IsApart : (before : D) → Option (List ℕ × List ℕ) → Type 0
@@ -173,52 +173,52 @@ module _ {D T L : Type 0} (desk : DeskWords D T L) where
   IsLeftOut before end after = (end ≡ LeftOut) × (after ≡ before)
 
   -- how a talk ends that was held with this status, or whose last text could not be sent
-  abbrev pub EndsTalk : Result Status WriteFault → End → Type 0
+  abbrev pub EndsTalk : Result ExitStatus WriteFault → End → Type 0
   EndsTalk (Ok status) end = end ≡ Ended status
   EndsTalk (Err refused) end = LosesOutput end
 
   -- the node's file of a job says no configuration: its fault was printed, and nothing was done
   pub record TellsNode (own : NodeJob) (before : D) (end : End) (after : D) : Type 0 where
-    pub start : ToldFiles D
-    pub stop : ToldFiles D
+    pub start : MachineFiles D
+    pub stop : MachineFiles D
     pub fault : Fault
     pub begun : start.desk ≡ before
     pub dump : reads_dump start.noted ≡ false
     pub maps : maps_for start.noted ≡ None
     pub read : ReadsNoConfiguration (ToldReads desk) (string_bytes own.node) start fault stop
-    pub told : Prints (fault_line fault) Failed stop.desk end after
+    pub reported : Prints (job_fault_line fault) Failed stop.desk end after
 
 module _ {D T L : Type 0} (desk : DeskWords D T L) (E : Type 0) (talk : TalkWords T) where
   -- what lines of standard input are was printed as they came
   pub record ShowsInput (of_dump : Bool) (before : D) (end : End) (after : D) : Type 0 where
-    pub first : ToldTalk E (DumpTalk T)
-    pub last : ToldTalk E (DumpTalk T)
-    pub done : Result Status WriteFault
+    pub first : ExplainedTalk E (DumpTalk T)
+    pub last : ExplainedTalk E (DumpTalk T)
+    pub done : Result ExitStatus WriteFault
     pub hears : desk.hears before first.talk.talk
     pub dump : first.talk.is_dump ≡ of_dump
     pub shown : MatchResult done
-        (ShowsTalk (ToldComes (DumpComes talk.came)) (ToldSends (DumpSends talk.sent)) (ToldSends (DumpSends talk.unsent))
-        (ToldMisses (DumpMisses talk.came talk.missed)) first last)
-        (IsShowUnsent (ToldComes (DumpComes talk.came)) (ToldSends (DumpSends talk.sent)) (ToldSends (DumpSends talk.unsent))
-        (ToldMisses (DumpMisses talk.came talk.missed)) first last)
+        (ShowsTalk (ToldComes (DumpComes talk.received)) (ToldSends (DumpSends talk.sent)) (ToldSends (DumpSends talk.unsent))
+        (ToldMisses (DumpMisses talk.received talk.missed)) first last)
+        (IsShowUnsent (ToldComes (DumpComes talk.received)) (ToldSends (DumpSends talk.sent)) (ToldSends (DumpSends talk.unsent))
+        (ToldMisses (DumpMisses talk.received talk.missed)) first last)
     pub over : desk.ends before last.talk.talk after
     pub ended : EndsTalk desk done end
 
   -- a talk was held over the lines of standard input, on a node of these words
   pub record HoldsLines (words : LiveWords) (before : D) (end : End) (after : D) : Type 0 where
-    pub start : ToldFiles D
-    pub stop : ToldFiles D
-    pub first : ToldTalk E T
-    pub last : ToldTalk E T
-    pub done : Result Status WriteFault
+    pub start : MachineFiles D
+    pub stop : MachineFiles D
+    pub first : ExplainedTalk E T
+    pub last : ExplainedTalk E T
+    pub done : Result ExitStatus WriteFault
     pub begun : start.desk ≡ before
     pub dump : reads_dump start.noted ≡ false
     pub maps : maps_for start.noted ≡ Some (maps_of_node words.node)
     pub hears : desk.hears before first.talk
     pub held : MatchResult done
-        (Lives (ToldReads desk) (ToldComes talk.came) (ToldSends talk.sent) (ToldSends talk.unsent) (ToldMisses talk.missed)
+        (Lives (ToldReads desk) (ToldComes talk.received) (ToldSends talk.sent) (ToldSends talk.unsent) (ToldMisses talk.missed)
         words start stop first last)
-        (IsUnsent (ToldReads desk) (ToldComes talk.came) (ToldSends talk.sent) (ToldSends talk.unsent) (ToldMisses talk.missed)
+        (IsUnsent (ToldReads desk) (ToldComes talk.received) (ToldSends talk.sent) (ToldSends talk.unsent) (ToldMisses talk.missed)
         words start stop first last)
     pub over : desk.ends stop.desk last.talk after
     pub ended : EndsTalk desk done end
@@ -243,8 +243,8 @@ module _ {D T L : Type 0} (desk : DeskWords D T L) (E : Type 0) (talk : TalkWord
 
   -- the node's file of a job says a configuration, and the job was done for that node, or refused
   pub record DoesPlaced (own : NodeJob) (before : D) (end : End) (after : D) : Type 0 where
-    pub start : ToldFiles D
-    pub stop : ToldFiles D
+    pub start : MachineFiles D
+    pub stop : MachineFiles D
     pub configuration : Configuration
     pub begun : start.desk ≡ before
     pub dump : reads_dump start.noted ≡ false
@@ -263,19 +263,19 @@ module _ {D T L : Type 0} (desk : DeskWords D T L) (E : Type 0) (talk : TalkWord
 module _ {D T L : Type 0} (desk : DeskWords D T L) (E : Type 0) (talk : TalkWords T) (serves : Bool) (link : LinkWords L) where
   -- a link was held over standard input, on a node of these words
   pub record HoldsLink (words : LiveWords) (before : D) (end : End) (after : D) : Type 0 where
-    pub start : ToldFiles D
-    pub stop : ToldFiles D
+    pub start : MachineFiles D
+    pub stop : MachineFiles D
     pub first : L
     pub last : L
-    pub done : Result Status WriteFault
+    pub done : Result ExitStatus WriteFault
     pub begun : start.desk ≡ before
     pub dump : reads_dump start.noted ≡ false
     pub maps : maps_for start.noted ≡ Some (maps_of_node words.node)
     pub linked : desk.links before first
     pub held : MatchResult done
-        (LivesFrames (ToldReads desk) link.came link.sent link.told link.unread link.unsent link.untold words link.lost start stop first
+        (LivesFrames (ToldReads desk) link.received link.sent link.reported link.unread link.unsent link.unreported words link.lost start stop first
         last)
-        (IsFramesUnsent (ToldReads desk) link.came link.sent link.told link.unread link.unsent link.untold words start stop first
+        (IsFramesUnsent (ToldReads desk) link.received link.sent link.reported link.unread link.unsent link.unreported words start stop first
         last)
     pub over : desk.unlinks stop.desk last after
     pub ended : EndsTalk desk done end
@@ -291,7 +291,7 @@ module _ {D T L : Type 0} (desk : DeskWords D T L) (E : Type 0) (talk : TalkWord
   DoesWork (Once job) before end after = DoesOnce desk E talk serves job before end after
   DoesWork (OnNode own) before end after = DoesOnNode desk E talk serves own before end after
   DoesWork (Live words) before end after = DoesTalk words.frames desk.has_link words before end after
-  DoesWork (Told text) before end after = Prints desk (string_bytes text) Done before end after
+  DoesWork (Printed text) before end after = Prints desk (string_bytes text) Done before end after
 
   -- the words name a work, which was done
   pub record DoesNamed (words : List Text) (before : D) (end : End) (after : D) : Type 0 where
@@ -303,7 +303,7 @@ module _ {D T L : Type 0} (desk : DeskWords D T L) (E : Type 0) (talk : TalkWord
   pub record TellsText (words : List Text) (before : D) (end : End) (after : D) : Type 0 where
     pub text : List ℕ
     pub asked : AskText words
-    pub told : Prints desk text Done before end after
+    pub reported : Prints desk text Done before end after
 
   -- the words name no work, and ask for no text: nothing was printed, and the status is that of this
   pub record IsMisused (words : List Text) (before : D) (end : End) (after : D) : Type 0 where

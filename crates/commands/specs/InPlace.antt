@@ -16,13 +16,13 @@ pub record IsOfTable (sizes : Maps) (text : List ℕ) (image : Program) : Type 0
 
 -- a text gives an image: that of the program that it writes, or else of its table. Or it gives none, and then it writes
 -- no program
-abbrev pub Stands : Maps → (text : List ℕ) → Option Program → Type 0
-Stands sizes text None = (p : Program) → ¬ IsText text p
-Stands sizes text (Some image) = IsText text image ⊎ (((p : Program) → ¬ IsText text p) × IsOfTable sizes text image)
+abbrev pub StandsForImage : Maps → (text : List ℕ) → Option Program → Type 0
+StandsForImage sizes text None = (p : Program) → ¬ IsText text p
+StandsForImage sizes text (Some image) = IsText text image ⊎ (((p : Program) → ¬ IsText text p) × IsOfTable sizes text image)
 
 -- these bytes are given in the place of others. If those are a text that gives an image, they are the bytes of the
 -- image, and else they are the same
 pub record IsInPlace (sizes : Maps) (bytes given : List ℕ) : Type 0 where
   pub image : Option Program
-  pub stands : IsUtf8 bytes → Stands sizes bytes image
+  pub stands : IsUtf8 bytes → StandsForImage sizes bytes image
   pub is : (image ≡ None → given ≡ bytes) × ((own : Program) → image ≡ Some own → given ≡ image_bytes own)

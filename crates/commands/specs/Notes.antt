@@ -5,27 +5,27 @@ use Rattle.commands.specs.InPlace.{IsInPlace}
 use Rattle.job_parts.specs.declared.inputs.Content.{Content}
 use Rattle.job_parts.specs.declared.inputs.Content.TheVariants as content
 use Rattle.job_parts.specs.declared.inputs.InputFile.{InputFile}
-use Rattle.commands.specs.declared.noted.Noted.{Noted}
+use Rattle.commands.specs.declared.noted.FileNotes.{FileNotes}
 use Rattle.commands.specs.declared.noted.FileNode.{FileNode}
 use Rattle.commands.specs.declared.noted.TheConstants.{MAX_TEXT}
 
 -- whether the lines that are read next are those of a dump
-abbrev pub reads_dump : Noted → Bool
+abbrev pub reads_dump : FileNotes → Bool
 reads_dump noted = noted.is_dump
 
 -- the maps for which the image is given of the text of a program or a table in the place of an image, if it is
-abbrev pub maps_for : Noted → Option Maps
+abbrev pub maps_for : FileNotes → Option Maps
 maps_for noted = noted.maps
 
 -- what the file must be that is read next. Of one that a node's own file names, all that is known is that no bank has
 -- more bytes
-abbrev pub content_of : Option InputFile → Content
-content_of None = content.Bytes (MAX_TEXT + 1)
-content_of (Some input) = input.content
+abbrev pub wanted_content : Option InputFile → Content
+wanted_content None = content.Bytes (MAX_TEXT + 1)
+wanted_content (Some input) = input.content
 
 -- the same of what is noted
-abbrev pub next_content : Noted → Content
-next_content noted = content_of noted.inputs.first
+abbrev pub next_content : FileNotes → Content
+next_content noted = wanted_content noted.inputs.first
 
 -- whether a file that must be that may be the text of a program or a table in the place of an image
 abbrev pub may_be_text : Content → Bool
@@ -45,7 +45,7 @@ GivesFor (Some maps) true bytes given = IsInPlace maps bytes given
 GivesFor (Some maps) false bytes given = given ≡ bytes
 
 -- the same of a file that must be that
-abbrev pub GivesPlaced : Noted → Content → (bytes given : List ℕ) → Type 0
+abbrev pub GivesPlaced : FileNotes → Content → (bytes given : List ℕ) → Type 0
 GivesPlaced noted content bytes given = GivesFor (maps_for noted) (may_be_text content) bytes given
 
 -- how many ports the node of a job has: those that its file says, or 32

@@ -8,8 +8,8 @@ use Rattle.commands.specs.Jobs.{facts_of}
 use Rattle.commands.specs.declared.jobs.Job.{Job}
 
 -- a subcommand with the option `--node`
-abbrev pub with_node : App → App
-with_node app = with_rule app (option_rule (codes "node"))
+abbrev pub with_node_option : App → App
+with_node_option app = with_rule app (option_rule (codes "node"))
 
 -- the name of the node's file that such a job is left to, if the matches have one
 abbrev pub own_file : Job → List Row → Option Text

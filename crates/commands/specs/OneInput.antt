@@ -4,7 +4,7 @@ use Rattle.job_parts.specs.TwoFiles.{are_one_input}
 use Rattle.commands.specs.Jobs.{names_of_job}
 use Rattle.commands.specs.ReadNames.{NamesValue, no_names}
 use Rattle.commands.specs.declared.work.Work.{Work}
-use Rattle.commands.specs.declared.work.Work.TheVariants.{Once, OnNode, Live, Told}
+use Rattle.commands.specs.declared.work.Work.TheVariants.{Once, OnNode, Live, Printed}
 
 -- the names of the files that a work reads: those of its job, and that of the node's file to which the job is left. A
 -- talk reads at most one file, and a text none
@@ -12,7 +12,7 @@ abbrev pub names_of_work : Work → NamesValue
 names_of_work (Once job) = names_of_job job
 names_of_work (OnNode own) = record (names_of_job own.job) { third = Some (string_bytes own.node) }
 names_of_work (Live words) = no_names
-names_of_work (Told text) = no_names
+names_of_work (Printed text) = no_names
 
 -- both files have a name, and it is that of standard input
 abbrev pub are_both_input : (one other : Option (List ℕ)) → Bool

@@ -32,13 +32,13 @@ stream_of words BadOption = Errors
 stream_of words Memory = if ask_frames words then Errors else Output
 
 -- what more is printed: nothing, except of a bad option
-abbrev pub TellsMore : UsageFault → (text : List ℕ) → Type 0
-TellsMore (Parse text) more = more ≡ []
-TellsMore BadOption more = Unit {0}
-TellsMore Memory more = more ≡ []
+abbrev pub ReportsMore : UsageFault → (text : List ℕ) → Type 0
+ReportsMore (Parse text) more = more ≡ []
+ReportsMore BadOption more = Unit {0}
+ReportsMore Memory more = more ≡ []
 
 -- what is printed of a fault, with its last line feed
-abbrev pub fault_words : UsageFault → List ℕ
-fault_words (Parse text) = string_bytes text
-fault_words BadOption = codes "bad option\n"
-fault_words Memory = codes "no memory\n"
+abbrev pub usage_fault_words : UsageFault → List ℕ
+usage_fault_words (Parse text) = string_bytes text
+usage_fault_words BadOption = codes "bad option\n"
+usage_fault_words Memory = codes "no memory\n"

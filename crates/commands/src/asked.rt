@@ -2,7 +2,7 @@
 
 ghost use Rattle.std.specs.Prelude.{◌≡◌, ◌&&◌, IfErr, IfOk, is_some};
 ghost use Rattle.clap.specs.Walk.{texts};
-ghost use Rattle.commands.specs.CommandLine.{AreTaken, AsksFor, AsksNone, ask_help, waits};
+ghost use Rattle.commands.specs.CommandLine.{AreWordsTaken, AsksFor, AsksNone, ask_help, waits};
 ghost use Rattle.commands.specs.Given.{words_given};
 
 use crate::usage::{command_line, words};
@@ -34,12 +34,12 @@ fn asks_clap(alloc: Global, words: &[&str]) -> Result<bool, AllocError> {
 
 /// The text for the user of words that `clap` refuses, if they ask for it; else it is that of a fault.
 fn text_asked(alloc: Global, given: &[&str], text: String) -> Result<Work, UsageFault>
-    requires { ¬ AreTaken (texts given.now) }
+    requires { ¬ AreWordsTaken (texts given.now) }
     ensures ok { IfOk result (AsksFor (texts given.now)) }
     ensures err { IfErr result (AsksNone (texts given.now)) }
 {
     if asks_clap(alloc, given)? {
-        Ok(Work::Told(text))
+        Ok(Work::Printed(text))
     } else {
         Err(UsageFault::Parse(text))
     }
@@ -91,7 +91,7 @@ pub fn asked_of(alloc: Global, given: &[&str]) -> Result<Work, UsageFault>
     ensures err { IfErr result (AsksNone (texts given.now)) }
 {
     if let Some(topic) = topic_of(given) {
-        return Ok(Work::Told(help(alloc, topic)?));
+        return Ok(Work::Printed(help(alloc, topic)?));
     }
     match words(alloc, given) {
         Ok(work) => Ok(work),
@@ -111,7 +111,7 @@ pub struct Waits {
 
 /// What the program prints before it waits for standard input, if that is a terminal: for a talk in lines, and if no
 /// word was given.
-pub fn told_wait(asked: &Work, given: Waits) -> Option<&'static str>
+pub fn wait_report(asked: &Work, given: Waits) -> Option<&'static str>
     ensures { is_some result ≡ (given.is_terminal && waits asked.now given.without_words) }
 {
     if !given.is_terminal {
@@ -119,7 +119,7 @@ pub fn told_wait(asked: &Work, given: Waits) -> Option<&'static str>
     }
     match asked {
         Work::Live(words) if !words.frames => Some(LIVE_WAITS),
-        Work::Told(_) => None,
+        Work::Printed(_) => None,
         _ if given.without_words => Some(JUDGE_WAITS),
         _ => None,
     }

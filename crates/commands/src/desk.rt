@@ -3,7 +3,7 @@
 ghost use Rattle.std.specs.Prelude.{◌≡◌, ℕ, List, [], IfOk, MatchOption, MatchResult, None, OnOk, Some, false, true};
 ghost use Rattle.commands.specs.Desks.{DeskWords};
 
-use crate::noted::Cause;
+use crate::noted::FileCause;
 use crate::serving::Serves;
 use job_live::talk::Talk;
 use linking::Link;
@@ -36,13 +36,13 @@ pub trait Desk {
     ghost held: { Self.Output → List ℕ };
 
     /// The bytes of a file, of which at most `most` must be there; or why it cannot be read.
-    fn read(&mut self, alloc: Global, name: &str, most: u64) -> Result<Vec<u8>, Cause>
+    fn read(&mut self, alloc: Global, name: &str, most: u64) -> Result<Vec<u8>, FileCause>
         ensures gave { MatchResult result
             (λ bytes. words.reads self.old name.now (Some bytes.items) self.new)
             (λ _. words.reads self.old name.now None self.new) };
 
     /// Makes `bytes` the content of a file; or why it cannot be written.
-    fn write(&mut self, name: &str, bytes: &[u8]) -> Result<(), Cause>
+    fn write(&mut self, name: &str, bytes: &[u8]) -> Result<(), FileCause>
         ensures took { MatchResult result
             (λ _. words.writes self.old name.now bytes.now true self.new)
             (λ _. words.writes self.old name.now bytes.now false self.new) };
@@ -100,7 +100,7 @@ pub trait Desk {
     /// # Errors
     ///
     /// An error if memory was refused and that must end all.
-    fn tell<T: Display + Drop>(&self, told: Result<T, AllocError>) -> Result<(), AllocError>;
+    fn tell<T: Display + Drop>(&self, reported: Result<T, AllocError>) -> Result<(), AllocError>;
 
     /// Prints that output was lost.
     ///

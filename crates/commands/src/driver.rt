@@ -6,26 +6,26 @@ ghost use Rattle.commands.specs.Driven.{DoesAlone, DoesJob, DoesOnNode, DoesOnce
 ghost use Rattle.commands.specs.Given.{words_given};
 ghost use Rattle.commands.specs.Jobs.{made_of};
 ghost use Rattle.commands.specs.Performed.{CanDo};
-ghost use Rattle.job_parts.specs.Printed.{fault_line};
+ghost use Rattle.job_parts.specs.Printed.{job_fault_line};
 ghost use Rattle.job_config.specs.Configured.{numbers_in};
 ghost use Rattle.job_parts.specs.Statuses.{usage_status};
-ghost use Rattle.job_parts.specs.declared.status.Status.TheVariants.{Failed, Misused};
+ghost use Rattle.job_parts.specs.declared.status.ExitStatus.TheVariants.{Failed, Misused};
 ghost use Rattle.node_parts.specs.Nodes.{are_within};
 ghost use Rattle.commands.specs.declared.driver.End.TheVariants.{Ended};
 
-use crate::asked::{Waits, asked_of, told_wait, words_or_judge};
+use crate::asked::{Waits, asked_of, wait_report, words_or_judge};
 use crate::desk::Desk;
 use crate::dumps::DumpTalk;
-use crate::ends::{told_end, told_node};
+use crate::ends::{end_report, node_report};
 use crate::jobs::{Job, JobEnd, perform_with};
 use crate::node_jobs::{NodeJob, node_inputs};
 use crate::noted::FileNode;
-use crate::refusals::{Refusal, told_fault};
+use crate::refusals::{UsageText, fault_report};
 use crate::serving::Serves;
 use crate::shows::show_talk;
 use crate::slips::{OWN_CONTENTS, OWN_SOURCE};
-use crate::told_files::ToldFiles;
-use crate::told_talk::ToldTalk;
+use crate::machine_files::MachineFiles;
+use crate::explained_talk::ExplainedTalk;
 use crate::work::Work;
 use job_config::configuration::Configuration;
 use job_config::contents_named::contents_paths;
@@ -34,7 +34,7 @@ use job_frames::holding::live_frames;
 use job_live::live::live;
 use job_live::words::LiveWords;
 use job_parts::faults::Fault;
-use job_parts::status::Status;
+use job_parts::status::ExitStatus;
 use job_parts::stops::WriteFault;
 use job_parts::usage::UsageFault;
 use std::alloc::{AllocError, Global};
@@ -53,7 +53,7 @@ const FRAMES_LEFT_OUT: &str = "live --frames is left out here: there is no link\
 #[derive(Clone, Copy, Debug, PartialEq, Eq)]
 pub enum End {
     /// It was done, up to this status.
-    Ended(Status),
+    Ended(ExitStatus),
     /// It was left out.
     LeftOut,
 }
@@ -98,7 +98,7 @@ fn lose<D: Desk + Drop>(desk: D, written: &io::Result<()>) -> Result<Left<D>, Al
     desk.lose(written)?;
     Ok(Left {
         desk,
-        end: End::Ended(Status::Failed),
+        end: End::Ended(ExitStatus::Failed),
     })
 }
 
@@ -107,7 +107,7 @@ fn end_output<D: Desk + Drop>(
     mut desk: D,
     mut out: D::Output,
     written: io::Result<()>,
-    status: Status,
+    status: ExitStatus,
 ) -> Result<Left<D>, AllocError>
     ensures { IfOk result (λ left. EndsOutput D.words written status desk (D.Output.contents out)
         left.end left.desk) }
@@ -128,7 +128,7 @@ fn print_text<D: Desk + Drop>(
     alloc: Global,
     desk: D,
     text: &str,
-    status: Status,
+    status: ExitStatus,
 ) -> Result<Left<D>, AllocError>
     ensures { IfOk result (λ left. Prints D.words text.now status desk left.end left.desk) }
 {
@@ -139,11 +139,11 @@ fn print_text<D: Desk + Drop>(
 
 /// Prints the line of a fault.
 fn fail<D: Desk + Drop>(alloc: Global, desk: D, fault: &Fault<'_>) -> Result<Left<D>, AllocError>
-    ensures { IfOk result (λ left. Prints D.words (fault_line fault.now) Failed desk left.end left.desk) }
+    ensures { IfOk result (λ left. Prints D.words (job_fault_line fault.now) Failed desk left.end left.desk) }
 {
     let mut out = desk.output(alloc)?;
     let written = writeln!(out, "{fault}");
-    end_output(desk, out, written, Status::Failed)
+    end_output(desk, out, written, ExitStatus::Failed)
 }
 
 /// Refuses a job that would write to the file of this name, and prints why.
@@ -163,7 +163,7 @@ fn refuse_output<D: Desk + Drop>(
 /// Ends a job by how it ended and how its output was closed, and prints what is known of that end.
 fn end_job<D: Desk + Drop>(
     alloc: Global,
-    mut files: ToldFiles<'_, D>,
+    mut files: MachineFiles<'_, D>,
     job: &Job,
     done: Result<JobEnd<'_>, WriteFault>,
     closed: io::Result<()>,
@@ -172,10 +172,10 @@ fn end_job<D: Desk + Drop>(
 {
     match (done, closed) {
         (Ok(end), Ok(())) => {
-            let told = files.told_end(alloc, job, &end);
+            let reported = files.end_report(alloc, job, &end);
             let status = end.status;
             let desk = files.into_desk();
-            desk.tell(told)?;
+            desk.tell(reported)?;
             Ok(Left {
                 desk,
                 end: End::Ended(status),
@@ -198,7 +198,7 @@ fn do_job<D: Desk + Drop>(
 {
     let server = desk.server();
     let mut out = desk.output(alloc)?;
-    let mut files = ToldFiles::of_job(desk, job, node);
+    let mut files = MachineFiles::of_job(desk, job, node);
     let done = perform_with(alloc, &server, job, &mut files, &mut out);
     // What was held back fails again if it failed before, with the reason.
     let closed = files.close(&mut out);
@@ -212,11 +212,11 @@ fn show_input<D: Desk + Drop>(
     is_dump: bool,
 ) -> Result<Left<D>, AllocError>
     ensures { IfOk result (λ left. ShowsInput D.words D.Errors
-        (talk_words D.Talk.came D.Talk.sent D.Talk.unsent D.Talk.missed) is_dump desk left.end left.desk) }
+        (talk_words D.Talk.received D.Talk.sent D.Talk.unsent D.Talk.missed) is_dump desk left.end left.desk) }
 {
     let errors = desk.errors();
     let lines = DumpTalk::new(alloc, desk.talk(alloc)?, is_dump);
-    let mut talk = ToldTalk::new(&errors, alloc, lines);
+    let mut talk = ExplainedTalk::new(&errors, alloc, lines);
     let done = show_talk(alloc, &mut talk);
     let sent = desk.end_talk(talk.into_talk().into_talk());
     end_talk(desk, done, &sent)
@@ -225,7 +225,7 @@ fn show_input<D: Desk + Drop>(
 /// Ends a talk that ended so. `sent` is why its last text could not be sent, if it could not.
 fn end_talk<D: Desk + Drop>(
     desk: D,
-    done: Result<Status, WriteFault>,
+    done: Result<ExitStatus, WriteFault>,
     sent: &io::Result<()>,
 ) -> Result<Left<D>, AllocError>
     ensures ended { IfOk result (λ left. EndsTalk D.words done left.end) }
@@ -293,7 +293,7 @@ fn do_once<D: Desk + Drop>(
 ) -> Result<Left<D>, AllocError>
     requires { D.Server.shares }
     ensures { IfOk result (λ left. DoesOnce D.words D.Errors
-        (talk_words D.Talk.came D.Talk.sent D.Talk.unsent D.Talk.missed) D.Server.serves
+        (talk_words D.Talk.received D.Talk.sent D.Talk.unsent D.Talk.missed) D.Server.serves
         job.now desk left.end left.desk) }
 {
     let facts = job.facts();
@@ -321,7 +321,7 @@ fn is_any_one<D: Desk>(desk: &D, paths: &[String], file: &str) -> bool
 /// The path of the file that a job makes, if a bank of its node's file begins with that file. The node's file was read last.
 fn own_contents<'a, D: Desk + Drop>(
     alloc: Global,
-    files: &ToldFiles<'_, D>,
+    files: &MachineFiles<'_, D>,
     job: &'a Job,
     node: &str,
 ) -> Result<Option<&'a str>, AllocError>
@@ -345,7 +345,7 @@ fn own_contents<'a, D: Desk + Drop>(
 /// Does a job for the node of a configuration, which its node's file says.
 fn do_placed<D: Desk + Drop>(
     alloc: Global,
-    files: ToldFiles<'_, D>,
+    files: MachineFiles<'_, D>,
     job: Job,
     node: &str,
     configuration: &Configuration,
@@ -353,7 +353,7 @@ fn do_placed<D: Desk + Drop>(
     requires within { are_within configuration.now.banks.items ≡ true }
     requires shared { D.Server.shares }
     ensures { IfOk result (λ left. DoesRead D.words D.Errors
-        (talk_words D.Talk.came D.Talk.sent D.Talk.unsent D.Talk.missed) D.Server.serves
+        (talk_words D.Talk.received D.Talk.sent D.Talk.unsent D.Talk.missed) D.Server.serves
         node.now job (numbers_in configuration.now) files.entry.desk left.end left.desk) }
 {
     if let Some(name) = own_contents(alloc, &files, &job, node)? {
@@ -371,17 +371,17 @@ fn do_placed<D: Desk + Drop>(
 /// Prints the fault of a job's node. Nothing is done.
 fn refuse_node<D: Desk + Drop>(
     alloc: Global,
-    files: ToldFiles<'_, D>,
+    files: MachineFiles<'_, D>,
     job: &Job,
     fault: Fault<'_>,
 ) -> Result<Left<D>, AllocError>
-    ensures { IfOk result (λ left. Prints D.words (fault_line fault.entry) Failed files.entry.desk
+    ensures { IfOk result (λ left. Prints D.words (job_fault_line fault.entry) Failed files.entry.desk
         left.end left.desk) }
 {
     let (desk, noted) = files.into_parts();
     let left = fail(alloc, desk, &fault)?;
     let end = JobEnd::refused(fault);
-    left.desk.tell(told_end(alloc, job, &end, &noted))?;
+    left.desk.tell(end_report(alloc, job, &end, &noted))?;
     Ok(left)
 }
 
@@ -390,7 +390,7 @@ fn refuse_node<D: Desk + Drop>(
 fn do_on_node<D: Desk + Drop>(alloc: Global, desk: D, own: NodeJob) -> Result<Left<D>, AllocError>
     requires { D.Server.shares }
     ensures { IfOk result (λ left. DoesOnNode D.words D.Errors
-        (talk_words D.Talk.came D.Talk.sent D.Talk.unsent D.Talk.missed) D.Server.serves
+        (talk_words D.Talk.received D.Talk.sent D.Talk.unsent D.Talk.missed) D.Server.serves
         own desk left.end left.desk) }
 {
     let NodeJob { job, node } = own;
@@ -398,7 +398,7 @@ fn do_on_node<D: Desk + Drop>(alloc: Global, desk: D, own: NodeJob) -> Result<Le
     if let Some(output) = own_input(&desk, &job, name) {
         return refuse_output(alloc, desk, output, OWN_SOURCE);
     }
-    let mut files = ToldFiles::new(desk, node_inputs(name));
+    let mut files = MachineFiles::new(desk, node_inputs(name));
     match configuration_in(alloc, &mut files, name) {
         Ok(configuration) => do_placed(alloc, files, job, name, &configuration),
         Err(fault) => refuse_node(alloc, files, &job, fault),
@@ -412,17 +412,17 @@ fn talk_lines<D: Desk + Drop>(
     words: &LiveWords,
 ) -> Result<Left<D>, AllocError>
     ensures { IfOk result (λ left. HoldsLines D.words D.Errors
-        (talk_words D.Talk.came D.Talk.sent D.Talk.unsent D.Talk.missed)
+        (talk_words D.Talk.received D.Talk.sent D.Talk.unsent D.Talk.missed)
         words.now desk left.end left.desk) }
 {
     let errors = desk.errors();
-    let mut talk = ToldTalk::new(&errors, alloc, desk.talk(alloc)?);
-    let mut files = ToldFiles::of_node(desk, &words.node);
+    let mut talk = ExplainedTalk::new(&errors, alloc, desk.talk(alloc)?);
+    let mut files = MachineFiles::of_node(desk, &words.node);
     let mut place = None;
     let done = live(alloc, words, &mut files, &mut talk, &mut place);
-    let told = told_node(alloc, &words.node, place.as_deref(), files.noted());
+    let reported = node_report(alloc, &words.node, place.as_deref(), files.noted());
     let mut desk = files.into_desk();
-    desk.tell(told)?;
+    desk.tell(reported)?;
     let sent = desk.end_talk(talk.into_talk());
     end_talk(desk, done, &sent)
 }
@@ -436,16 +436,16 @@ fn talk_frames<D: Desk + Drop>(
 ) -> Result<Left<D>, AllocError>
     requires { D.words.links desk link }
     ensures { IfOk result (λ left. HoldsLink D.words D.Errors
-        (talk_words D.Talk.came D.Talk.sent D.Talk.unsent D.Talk.missed) D.Server.serves
-        (link_words D.Link.came D.Link.sent D.Link.told D.Link.unread D.Link.unsent D.Link.untold D.Link.lost)
+        (talk_words D.Talk.received D.Talk.sent D.Talk.unsent D.Talk.missed) D.Server.serves
+        (link_words D.Link.received D.Link.sent D.Link.reported D.Link.unread D.Link.unsent D.Link.unreported D.Link.lost)
         words.now desk left.end left.desk) }
 {
-    let mut files = ToldFiles::of_node(desk, &words.node);
+    let mut files = MachineFiles::of_node(desk, &words.node);
     let mut place = None;
     let done = live_frames(alloc, words, &mut files, &mut link, &mut place);
-    let told = told_node(alloc, &words.node, place.as_deref(), files.noted());
+    let reported = node_report(alloc, &words.node, place.as_deref(), files.noted());
     let mut desk = files.into_desk();
-    desk.tell(told)?;
+    desk.tell(reported)?;
     let sent = desk.end_link(link);
     end_talk(desk, done, &sent)
 }
@@ -453,8 +453,8 @@ fn talk_frames<D: Desk + Drop>(
 /// Holds a talk: one in frames only if there is a link.
 fn do_live<D: Desk + Drop>(alloc: Global, desk: D, words: &LiveWords) -> Result<Left<D>, AllocError>
     ensures { IfOk result (λ left. DoesTalk D.words D.Errors
-        (talk_words D.Talk.came D.Talk.sent D.Talk.unsent D.Talk.missed) D.Server.serves
-        (link_words D.Link.came D.Link.sent D.Link.told D.Link.unread D.Link.unsent D.Link.untold D.Link.lost)
+        (talk_words D.Talk.received D.Talk.sent D.Talk.unsent D.Talk.missed) D.Server.serves
+        (link_words D.Link.received D.Link.sent D.Link.reported D.Link.unread D.Link.unsent D.Link.unreported D.Link.lost)
         words.now.frames D.words.has_link words.now desk left.end left.desk) }
 {
     if !words.frames {
@@ -470,15 +470,15 @@ fn do_live<D: Desk + Drop>(alloc: Global, desk: D, words: &LiveWords) -> Result<
 fn do_work<D: Desk + Drop>(alloc: Global, desk: D, work: Work) -> Result<Left<D>, AllocError>
     requires { D.Server.shares }
     ensures { IfOk result (λ left. DoesWork D.words D.Errors
-        (talk_words D.Talk.came D.Talk.sent D.Talk.unsent D.Talk.missed) D.Server.serves
-        (link_words D.Link.came D.Link.sent D.Link.told D.Link.unread D.Link.unsent D.Link.untold D.Link.lost)
+        (talk_words D.Talk.received D.Talk.sent D.Talk.unsent D.Talk.missed) D.Server.serves
+        (link_words D.Link.received D.Link.sent D.Link.reported D.Link.unread D.Link.unsent D.Link.unreported D.Link.lost)
         work desk left.end left.desk) }
 {
     match work {
         Work::Once(job) => do_once(alloc, desk, &job, None),
         Work::OnNode(own) => do_on_node(alloc, desk, own),
         Work::Live(words) => do_live(alloc, desk, &words),
-        Work::Told(text) => print_text(alloc, desk, text.as_str(), Status::Done),
+        Work::Printed(text) => print_text(alloc, desk, text.as_str(), ExitStatus::Done),
     }
 }
 
@@ -495,11 +495,11 @@ fn refuse<D: Desk + Drop>(
     match fault {
         UsageFault::Memory => Err(AllocError),
         UsageFault::Parse(_) | UsageFault::BadOption => {
-            desk.tell(Ok(Refusal::of(fault)))?;
-            desk.tell(told_fault(alloc, fault, words))?;
+            desk.tell(Ok(UsageText::of(fault)))?;
+            desk.tell(fault_report(alloc, fault, words))?;
             Ok(Left {
                 desk,
-                end: End::Ended(Status::Misused),
+                end: End::Ended(ExitStatus::Misused),
             })
         }
     }
@@ -519,8 +519,8 @@ pub fn do_words<D: Desk + Drop>(
 ) -> Result<Left<D>, AllocError>
     requires { D.Server.shares }
     ensures { IfOk result (λ left. DoesGiven D.words D.Errors
-        (talk_words D.Talk.came D.Talk.sent D.Talk.unsent D.Talk.missed) D.Server.serves
-        (link_words D.Link.came D.Link.sent D.Link.told D.Link.unread D.Link.unsent D.Link.untold D.Link.lost)
+        (talk_words D.Talk.received D.Talk.sent D.Talk.unsent D.Talk.missed) D.Server.serves
+        (link_words D.Link.received D.Link.sent D.Link.reported D.Link.unread D.Link.unsent D.Link.unreported D.Link.lost)
         (words_given (texts given.now)) desk left.end left.desk) }
 {
     let waits = Waits {
@@ -530,7 +530,7 @@ pub fn do_words<D: Desk + Drop>(
     let words = words_or_judge(given);
     match asked_of(alloc, words) {
         Ok(work) => {
-            if let Some(text) = told_wait(&work, waits) {
+            if let Some(text) = wait_report(&work, waits) {
                 let _ = desk.errors().eprintln(&text);
             }
             do_work(alloc, desk, work)

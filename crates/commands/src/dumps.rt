@@ -74,11 +74,11 @@ impl<T: Talk + Drop> DumpTalk<T> {
 impl<T: Talk + Drop> Talk for DumpTalk<T> {
     ghost use Rattle.commands.specs.Desks.{DumpComes, DumpMisses, DumpSends};
 
-    ghost came = { DumpComes T.came };
+    ghost received = { DumpComes T.received };
 
     ghost sent = { DumpSends T.sent };
 
-    ghost missed = { DumpMisses T.came T.missed };
+    ghost missed = { DumpMisses T.received T.missed };
 
     ghost unsent = { DumpSends T.unsent };
 

@@ -4,10 +4,10 @@ use crate::foreign::Foreign;
 use crate::in_place::add_source;
 use crate::jobs::{Job, JobEnd};
 use crate::line_paths::{LinePaths, may_have_paths};
-use crate::noted::{Cause, Noted};
+use crate::noted::{FileCause, FileNotes};
 use crate::odd::add_odd;
 use crate::short_quotas::add_short_quotas;
-use crate::slips::{self, told_output};
+use crate::slips::{self, output_report};
 use crate::{denied_loads, hints};
 use job_config::sources::NodeSource;
 use job_nodes::full_journals::FullJournals;
@@ -16,8 +16,8 @@ use job_packets::packet::PacketWords;
 use job_parts::bad_lines::BadLine;
 use job_parts::faults::Fault;
 use job_parts::forms::form_line;
-use job_parts::status::Status;
-use job_rehearse::table_loads::{told_loaders, told_policy};
+use job_parts::status::ExitStatus;
+use job_rehearse::table_loads::{loader_lines, policy_lines};
 use spw::{LineFault, lines_of};
 use std::alloc::{AllocError, Global};
 
@@ -29,13 +29,13 @@ const TAKE: &str = "take";
 
 /// Adds why the file of this name could not be read or written. If the system says nothing, there is only what the job
 /// said of its content.
-fn add_cause(text: &mut String, name: &str, cause: Option<&Cause>) -> Result<(), AllocError> {
+fn add_cause(text: &mut String, name: &str, cause: Option<&FileCause>) -> Result<(), AllocError> {
     match cause {
-        Some(Cause::System(refused)) => write!(text, "    {refused}\n"),
-        Some(Cause::Image) => text.push_str("    this is an image\n"),
-        Some(Cause::Input) => text.push_str("    this is standard input\n"),
-        Some(Cause::TooLong) => write!(text, "    {name} has over 1,048,576 bytes\n"),
-        Some(Cause::NoText) | None => text.push_str("    this is no text: it is not UTF-8\n"),
+        Some(FileCause::System(refused)) => write!(text, "    {refused}\n"),
+        Some(FileCause::Image) => text.push_str("    this is an image\n"),
+        Some(FileCause::Input) => text.push_str("    this is standard input\n"),
+        Some(FileCause::TooLong) => write!(text, "    {name} has over 1,048,576 bytes\n"),
+        Some(FileCause::NoText) | None => text.push_str("    this is no text: it is not UTF-8\n"),
     }
 }
 
@@ -52,7 +52,7 @@ fn add_form(text: &mut String, alloc: Global, bytes: Option<&[u8]>) -> Result<()
 }
 
 /// If a text is in the place of an image, adds the place in it for which it was refused, or why it is none.
-fn add_place_in(text: &mut String, alloc: Global, noted: &Noted<'_>) -> Result<(), AllocError> {
+fn add_place_in(text: &mut String, alloc: Global, noted: &FileNotes<'_>) -> Result<(), AllocError> {
     match noted.source() {
         Some((source, maps)) => add_source(text, alloc, source, maps, noted.is_on_node()),
         None => Ok(()),
@@ -60,7 +60,7 @@ fn add_place_in(text: &mut String, alloc: Global, noted: &Noted<'_>) -> Result<(
 }
 
 /// Adds what bytes are that are no image: why a text is none, if one may be in its place, or else what a text is.
-fn add_no_image(text: &mut String, alloc: Global, noted: &Noted<'_>) -> Result<(), AllocError> {
+fn add_no_image(text: &mut String, alloc: Global, noted: &FileNotes<'_>) -> Result<(), AllocError> {
     match noted.source() {
         Some(_) => add_place_in(text, alloc, noted),
         None => add_form(text, alloc, noted.last()),
@@ -90,11 +90,11 @@ fn add_bad_line(
     bad: BadLine,
 ) -> Result<(), AllocError> {
     let code = bad.number();
-    let told = match (job, bad) {
+    let reported = match (job, bad) {
         (Job::Simulate(_), BadLine::Line(LineFault::BadMarker)) => WHOLE_MARKER,
         _ => bad.title(),
     };
-    write!(text, "    line {number} fault {code}: {told}\n")
+    write!(text, "    line {number} fault {code}: {reported}\n")
 }
 
 /// Adds where a node's file has its fault, and what it must have there.
@@ -117,7 +117,7 @@ fn add_text(
     alloc: Global,
     job: &Job,
     read: &str,
-    noted: &Noted<'_>,
+    noted: &FileNotes<'_>,
 ) -> Result<(), AllocError> {
     if let Job::Map(words) = job {
         if hints::is_drawn(alloc, read, &words.sizes)? {
@@ -136,13 +136,13 @@ fn add_failed(
     alloc: Global,
     job: &Job,
     fault: &Option<Fault<'_>>,
-    noted: &Noted<'_>,
+    noted: &FileNotes<'_>,
 ) -> Result<(), AllocError> {
     match fault {
         Some(Fault::CannotRead(name)) => add_cause(text, *name, noted.cause()),
         Some(Fault::CannotWrite(name)) => match noted.cause() {
             Some(cause) => add_cause(text, *name, Some(cause)),
-            None => text.push_str(told_output(job)),
+            None => text.push_str(output_report(job)),
         },
         Some(Fault::BadLine { number, fault }) => {
             add_bad_line(text, job, *number, *fault)?;
@@ -241,7 +241,7 @@ fn add_done(
     text: &mut String,
     alloc: Global,
     job: &Job,
-    noted: &Noted<'_>,
+    noted: &FileNotes<'_>,
 ) -> Result<(), AllocError> {
     match (job, noted.text()) {
         (Job::Packet(words), _) if matches!(words.order, Order::Load { .. }) => {
@@ -249,23 +249,23 @@ fn add_done(
         }
         (Job::Policy(words), Some(table)) if !words.is_quiet => {
             if !words.is_final {
-                let told = told_policy(alloc, table, &words.sizes, noted.ports())?;
-                text.push_str(told.as_str())?;
+                let reported = policy_lines(alloc, table, &words.sizes, noted.ports())?;
+                text.push_str(reported.as_str())?;
                 add_short_quotas(text, alloc, table, &words.sizes, noted.ports())?;
             }
             add_odd(text, alloc, table, &words.sizes, noted.node(), true)
         }
         (Job::Map(words), Some(table)) if !words.is_quiet => {
-            let told = hints::told_length(alloc, table, &words.sizes)?;
-            text.push_str(told.as_str())?;
-            let told = told_loaders(alloc, table, &words.sizes, noted.ports())?;
-            text.push_str(told.as_str())?;
+            let reported = hints::length_report(alloc, table, &words.sizes)?;
+            text.push_str(reported.as_str())?;
+            let reported = loader_lines(alloc, table, &words.sizes, noted.ports())?;
+            text.push_str(reported.as_str())?;
             add_short_quotas(text, alloc, table, &words.sizes, noted.ports())?;
             add_odd(text, alloc, table, &words.sizes, noted.node(), false)
         }
         (Job::Compare(words), Some(table)) => {
-            let told = hints::told_length(alloc, table, &words.sizes)?;
-            text.push_str(told.as_str())
+            let reported = hints::length_report(alloc, table, &words.sizes)?;
+            text.push_str(reported.as_str())
         }
         _ => Ok(()),
     }
@@ -293,17 +293,17 @@ fn add_lost(text: &mut String, lost: u64) -> Result<(), AllocError> {
 /// # Errors
 ///
 /// An error if memory is refused.
-pub fn told_end(
+pub fn end_report(
     alloc: Global,
     job: &Job,
     end: &JobEnd<'_>,
-    noted: &Noted<'_>,
+    noted: &FileNotes<'_>,
 ) -> Result<String, AllocError> {
     let mut text = String::new(alloc);
     match end.status {
-        Status::Done => add_done(&mut text, alloc, job, noted)?,
-        Status::Misused => text.push_str(slips::advice(job))?,
-        Status::Failed => add_failed(&mut text, alloc, job, &end.fault, noted)?,
+        ExitStatus::Done => add_done(&mut text, alloc, job, noted)?,
+        ExitStatus::Misused => text.push_str(slips::advice(job))?,
+        ExitStatus::Failed => add_failed(&mut text, alloc, job, &end.fault, noted)?,
     }
     if let Some(lines) = noted.lines() {
         add_first_path(&mut text, alloc, job, lines)?;
@@ -318,7 +318,7 @@ fn add_unread(
     text: &mut String,
     alloc: Global,
     node: &NodeSource,
-    noted: &Noted<'_>,
+    noted: &FileNotes<'_>,
 ) -> Result<(), AllocError> {
     match (node.input(), noted.cause()) {
         (Some(file), Some(cause)) => add_cause(text, file.name, Some(cause)),
@@ -333,11 +333,11 @@ fn add_unread(
 /// # Errors
 ///
 /// An error if memory is refused.
-pub fn told_node(
+pub fn node_report(
     alloc: Global,
     node: &NodeSource,
     place: Option<&str>,
-    noted: &Noted<'_>,
+    noted: &FileNotes<'_>,
 ) -> Result<String, AllocError> {
     let mut text = String::new(alloc);
     match place {

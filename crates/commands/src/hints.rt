@@ -5,7 +5,7 @@ use basm::{AsmCode, AsmFault, assemble};
 use basm_lex::{is_name, read_mnemonic};
 use machine::{MapKind, MapSizes};
 use policy::{Policy, PolicyFault, PortRule, TableVersion, TextFault};
-use policy_table::{port_rule_slots, reported, table_slots};
+use policy_table::{port_rule_slots, reported_fault, table_slots};
 use spw::lines_of;
 use std::alloc::{AllocError, Global};
 
@@ -275,7 +275,7 @@ pub fn is_drawn(alloc: Global, table: &str, sizes: &MapSizes) -> Result<bool, Al
 
 /// What more is printed of the faults of a table. It is what the line holds of the one that is reported, and each other
 /// fault in a line of its own. The reported one was printed with its place before, except if the place is to come here.
-fn told_faults(
+fn faults_report(
     alloc: Global,
     table: &str,
     sizes: &MapSizes,
@@ -284,7 +284,7 @@ fn told_faults(
     is_placed: bool,
 ) -> Result<String, AllocError> {
     let mut text = String::new(alloc);
-    let Some(first) = reported(faults) else {
+    let Some(first) = reported_fault(faults) else {
         return Ok(text);
     };
     if !is_placed {
@@ -306,10 +306,10 @@ fn told_faults(
 /// # Errors
 ///
 /// An error if memory is refused.
-pub fn told_length(alloc: Global, table: &str, sizes: &MapSizes) -> Result<String, AllocError> {
+pub fn length_report(alloc: Global, table: &str, sizes: &MapSizes) -> Result<String, AllocError> {
     let mut text = String::new(alloc);
     let faults = Policy::faults(alloc, table, sizes)?;
-    match reported(faults.as_slice()) {
+    match reported_fault(faults.as_slice()) {
         Some(fault) if fault.fault() == PolicyFault::TooLong => {
             write!(text, "    no program has this table: {fault}\n")?;
             add_length(&mut text, alloc, table)?;
@@ -324,14 +324,14 @@ pub fn told_length(alloc: Global, table: &str, sizes: &MapSizes) -> Result<Strin
 /// # Errors
 ///
 /// An error if memory is refused.
-pub fn told_placed(
+pub fn placed_report(
     alloc: Global,
     table: &str,
     sizes: &MapSizes,
     is_on_node: bool,
 ) -> Result<String, AllocError> {
     let faults = faults_of(alloc, table, sizes, false)?;
-    told_faults(alloc, table, sizes, is_on_node, faults.as_slice(), true)
+    faults_report(alloc, table, sizes, is_on_node, faults.as_slice(), true)
 }
 
 /// Whether a line is a bare name, as of a label without its colon.
@@ -389,7 +389,7 @@ fn last_word(line: &str) -> &str {
 /// # Errors
 ///
 /// An error if memory is refused.
-pub fn told_text(alloc: Global, source: &str) -> Result<String, AllocError> {
+pub fn text_report(alloc: Global, source: &str) -> Result<String, AllocError> {
     let mut text = String::new(alloc);
     let Err(AsmFault { line: number, code }) = assemble(alloc, source) else {
         return Ok(text);
@@ -450,7 +450,7 @@ pub fn advice(
     let Some(sizes) = table_sizes(job) else {
         return match job {
             Job::Assemble(_) if is_table(alloc, text) => String::from_str(alloc, IS_TABLE),
-            Job::Assemble(_) => told_text(alloc, text),
+            Job::Assemble(_) => text_report(alloc, text),
             _ => Ok(String::new(alloc)),
         };
     };
@@ -458,12 +458,12 @@ pub fn advice(
         return String::from_str(alloc, IS_PROGRAM);
     }
     if let Job::Policy(_) = job {
-        return told_placed(alloc, text, sizes, is_on_node);
+        return placed_report(alloc, text, sizes, is_on_node);
     }
     let is_drawn = matches!(job, Job::Map(_) | Job::Compare(_));
     let faults = faults_of(alloc, text, sizes, is_drawn)?;
     if is_drawn && faults.is_empty() {
-        return told_length(alloc, text, sizes);
+        return length_report(alloc, text, sizes);
     }
-    told_faults(alloc, text, sizes, is_on_node, faults.as_slice(), false)
+    faults_report(alloc, text, sizes, is_on_node, faults.as_slice(), false)
 }

@@ -2,9 +2,9 @@
 
 ghost use Rattle.std.specs.Prelude.{◌≡◌, IfOk, IfSome};
 ghost use Rattle.std.specs.Str.{IsUtf8};
-ghost use Rattle.commands.specs.InPlace.{IsInPlace, IsOfTable, Stands};
+ghost use Rattle.commands.specs.InPlace.{IsInPlace, IsOfTable, StandsForImage};
 
-use crate::hints::{told_placed, told_text};
+use crate::hints::{placed_report, text_report};
 use basm::{AsmCode, assemble};
 use basm_lex::{read_head, read_mnemonic};
 use bpf::Image;
@@ -51,7 +51,7 @@ fn is_memory(fault: &TextFault) -> bool {
 ///
 /// An error if memory is refused.
 pub fn image_of(alloc: Global, text: &str, sizes: &MapSizes) -> Result<Option<Image>, AllocError>
-    ensures { IfOk result (Stands sizes.now text.now) }
+    ensures { IfOk result (StandsForImage sizes.now text.now) }
 {
     match assemble(alloc, text) {
         Ok(image) => Ok(Some(image)),
@@ -62,7 +62,7 @@ pub fn image_of(alloc: Global, text: &str, sizes: &MapSizes) -> Result<Option<Im
 
 /// The image that bytes give, if they are such a text.
 fn image_in(alloc: Global, bytes: &[u8], sizes: &MapSizes) -> Result<Option<Image>, AllocError>
-    ensures { IfOk result (λ image. IsUtf8 bytes.now → Stands sizes.now bytes.now image) }
+    ensures { IfOk result (λ image. IsUtf8 bytes.now → StandsForImage sizes.now bytes.now image) }
 {
     match str::from_utf8(bytes) {
         Ok(text) => image_of(alloc, text, sizes),
@@ -167,14 +167,14 @@ fn add_faults(
     is_on_node: bool,
 ) -> Result<(), AllocError> {
     if !is_program(source) {
-        return text.push_str(told_placed(alloc, source, sizes, is_on_node)?.as_str());
+        return text.push_str(placed_report(alloc, source, sizes, is_on_node)?.as_str());
     }
     let Err(fault) = assemble(alloc, source) else {
         return Ok(());
     };
     let fault = Fault::BadText(fault);
     write!(text, "    {fault}\n")?;
-    text.push_str(told_text(alloc, source)?.as_str())
+    text.push_str(text_report(alloc, source)?.as_str())
 }
 
 /// Adds what is printed of a text in the place of an image, if it was refused. It is the line at which the slot of the

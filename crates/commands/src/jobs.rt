@@ -2,7 +2,7 @@
 
 ghost use Rattle.std.specs.Prelude.{◌≡◌, IfErr, IfOk, option_map};
 ghost use Rattle.commands.specs.Jobs.{are_talked, facts_of, made_of, maps_of_node, names_of_job};
-ghost use Rattle.commands.specs.Performed.{CanDo, IsDone, IsEnded, Performs};
+ghost use Rattle.commands.specs.Performed.{CanDo, IsJobDone, IsJobEnded, Performs};
 ghost use Rattle.job_parts.specs.Arguments.{name_in};
 ghost use Rattle.job_parts.specs.Stops.{StopsBy};
 
@@ -25,8 +25,8 @@ use job_packets::packet::PacketWords;
 use job_parts::faults::Fault;
 use job_parts::inputs::Inputs;
 use job_parts::options::no_maps;
-use job_parts::status::Status;
-use job_parts::stops::{Halt, WriteFault};
+use job_parts::status::ExitStatus;
+use job_parts::stops::{JobStop, WriteFault};
 use job_parts::storage::Files;
 use job_rehearse::rehearse::{RehearseWords, rehearse_file};
 use job_show::show::{ShowWords, show_file};
@@ -117,7 +117,7 @@ impl Job {
             Job::Assemble(words) => words.inputs(),
             Job::Disassemble(words) => words.inputs(),
             Job::Verify(args) => args.inputs(),
-            Job::Why(args) => args.told_inputs(),
+            Job::Why(args) => args.why_inputs(),
             Job::Policy(words) => words.inputs(),
             Job::Weigh(words) => words.inputs(),
             Job::Node(words) => words.inputs(),
@@ -207,7 +207,7 @@ impl Job {
 #[derive(Debug, Drop)]
 pub struct JobEnd<'a> {
     /// Its exit status.
-    pub status: Status,
+    pub status: ExitStatus,
     /// The fault that ended it, of which the line was printed.
     pub fault: Option<Fault<'a>>,
     /// Of `judge` which journals were found full.
@@ -226,12 +226,12 @@ fn attempt<'a, S: Serves, F: Files, W: Write>(
     out: &mut W,
     full: &mut Option<FullJournals>,
     lost: &mut u64,
-) -> Result<Status, Halt<'a>>
+) -> Result<ExitStatus, JobStop<'a>>
     requires can { CanDo S.serves job.now }
     requires shared { S.shares }
-    ensures done { IfOk result (IsDone F.reads F.writes job.now files.old files.new
+    ensures done { IfOk result (IsJobDone F.reads F.writes job.now files.old files.new
         (W.contents out.old) (W.contents out.new)) }
-    ensures stops { IfErr result (StopsBy (IsEnded F.reads F.writes job.now files.old files.new
+    ensures stops { IfErr result (StopsBy (IsJobEnded F.reads F.writes job.now files.old files.new
         (W.contents out.old) (W.contents out.new))) }
 {
     match job {
@@ -285,16 +285,16 @@ pub fn perform_with<'a, S: Serves, F: Files, W: Write>(
             full,
             lost,
         }),
-        Err(Halt::Ended(fault)) => {
+        Err(JobStop::Ended(fault)) => {
             writeln!(out, "{fault}")?;
             Ok(JobEnd {
-                status: Status::Failed,
+                status: ExitStatus::Failed,
                 fault: Some(fault),
                 full,
                 lost,
             })
         }
-        Err(Halt::Unwritten(fault)) => Err(fault),
+        Err(JobStop::Unwritten(fault)) => Err(fault),
     }
 }
 
@@ -315,7 +315,7 @@ pub fn perform<R: Threads + Wait + Sync, F: Files, W: Write>(
     job: &Job,
     files: &mut F,
     out: &mut W,
-) -> Result<Status, WriteFault>
+) -> Result<ExitStatus, WriteFault>
     ensures { IfOk result (Performs F.reads F.writes job.now files.old files.new
         (W.contents out.old) (W.contents out.new)) }
 {

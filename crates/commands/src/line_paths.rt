@@ -2,10 +2,10 @@
 
 ghost use Rattle.std.specs.Prelude.{◌≡◌};
 
-use initiator::Seen;
+use initiator::PacketForm;
 use job_show::paths::{add_path, path_in_front};
 use memchr::memmem;
-use rmap::Flaw;
+use rmap::DiscardFault;
 use spw::{Packet, first_word, read_part};
 use std::alloc::{AllocError, Global};
 
@@ -50,9 +50,9 @@ fn is_looked_at(line: &str) -> bool {
 
 /// The path that is before a packet, which is discarded because of it. It has no bytes if there is no path.
 fn path_before(packet: &Packet) -> &[u8] {
-    match Seen::of(packet) {
-        Seen::Discarded {
-            flaw: Flaw::OtherProtocol { .. },
+    match PacketForm::of(packet) {
+        PacketForm::Discarded {
+            discard_fault: DiscardFault::OtherProtocol { .. },
             ..
         } => path_in_front(packet.bytes()),
         _ => &[],

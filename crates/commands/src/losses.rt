@@ -3,7 +3,7 @@
 
 ghost use Rattle.std.specs.Prelude.{◌≡◌, ◌≢◌, ◌<◌, IfErr, IsErrAnd, MatchOption, Some, codes};
 ghost use Rattle.std.specs.IoError.{error_kind};
-ghost use Rattle.commands.specs.Losses.{untold_text};
+ghost use Rattle.commands.specs.Losses.{unreported_text};
 
 use std::fmt;
 use std::io::{self, ErrorKind};
@@ -12,7 +12,7 @@ use std::io::{self, ErrorKind};
 const LOST: &str = "cannot write standard output";
 
 /// What is printed of output that was not written, if its reader did not just close the pipe.
-pub fn told_loss(written: &io::Result<()>) -> Option<&'static str>
+pub fn loss_report(written: &io::Result<()>) -> Option<&'static str>
     ensures { MatchOption result
         (IsErrAnd written.now (λ refused. error_kind refused ≡ ErrorKind.BrokenPipe))
         (λ text. (text.now ≡ codes "cannot write standard output")
@@ -29,25 +29,25 @@ pub fn told_loss(written: &io::Result<()>) -> Option<&'static str>
 
 /// That standard error did not take this many texts.
 #[derive(Clone, Copy, Debug)]
-pub struct Untold {
+pub struct UnreportedTexts {
     count: u64,
 }
 
-impl Untold {
+impl UnreportedTexts {
     /// What is printed of that many texts, if there are any.
-    pub fn of(count: u64) -> Option<Untold>
-        ensures { MatchOption result (count ≡ 0) (λ untold. (0 < count) × (untold.count ≡ count)) }
+    pub fn of(count: u64) -> Option<UnreportedTexts>
+        ensures { MatchOption result (count ≡ 0) (λ unreported. (0 < count) × (unreported.count ≡ count)) }
     {
         if count == 0 {
             None
         } else {
-            Some(Untold { count })
+            Some(UnreportedTexts { count })
         }
     }
 }
 
-impl fmt::Display for Untold {
-    ghost output = { λ untold. Some (untold_text untold.count) };
+impl fmt::Display for UnreportedTexts {
+    ghost output = { λ unreported. Some (unreported_text unreported.count) };
 
     fn fmt<W: fmt::Write>(&self, f: &mut fmt::Formatter<W>) -> fmt::Result {
         let count = self.count;

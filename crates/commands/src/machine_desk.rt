@@ -3,8 +3,8 @@
 ghost use Rattle.std.specs.Prelude.{◌≡◌};
 
 use crate::desk::Desk;
-use crate::losses::{Untold, told_loss};
-use crate::noted::Cause;
+use crate::losses::{UnreportedTexts, loss_report};
+use crate::noted::FileCause;
 use crate::serving::Threaded;
 use crate::whole_file::write_whole;
 use job_frames::host::HostLink;
@@ -90,20 +90,20 @@ impl<'a, R: rt::Files + Input + Print + Eprint + Threads + Wait + Sync> Desk
 
     ghost held = { writer_buffer };
 
-    fn read(&mut self, alloc: Global, name: &str, most: u64) -> Result<Vec<u8>, Cause> {
+    fn read(&mut self, alloc: Global, name: &str, most: u64) -> Result<Vec<u8>, FileCause> {
         match file_bytes(self.rt, alloc, name, most) {
             Ok(bytes) => Ok(bytes),
-            Err(refused) => Err(Cause::System(refused)),
+            Err(refused) => Err(FileCause::System(refused)),
         }
     }
 
-    fn write(&mut self, name: &str, bytes: &[u8]) -> Result<(), Cause> {
+    fn write(&mut self, name: &str, bytes: &[u8]) -> Result<(), FileCause> {
         if name == STANDARD_INPUT {
-            return Err(Cause::Input);
+            return Err(FileCause::Input);
         }
         match write_whole(self.rt, self.alloc, name, bytes) {
             Ok(()) => Ok(()),
-            Err(refused) => Err(Cause::System(refused)),
+            Err(refused) => Err(FileCause::System(refused)),
         }
     }
 
@@ -150,8 +150,8 @@ impl<'a, R: rt::Files + Input + Print + Eprint + Threads + Wait + Sync> Desk
         &mut self,
         link: HostLink<R::Reader, Printer<'a, R>, Printer<'a, Stderr>>,
     ) -> io::Result<()> {
-        if let Some(untold) = Untold::of(link.untold()) {
-            let _ = self.rt.eprintln(&untold);
+        if let Some(unreported) = UnreportedTexts::of(link.unreported()) {
+            let _ = self.rt.eprintln(&unreported);
         }
         link.into_output().1
     }
@@ -164,15 +164,15 @@ impl<'a, R: rt::Files + Input + Print + Eprint + Threads + Wait + Sync> Desk
         Threaded::new(self.rt)
     }
 
-    fn tell<T: Display + Drop>(&self, told: Result<T, AllocError>) -> Result<(), AllocError> {
-        if let Ok(text) = told {
+    fn tell<T: Display + Drop>(&self, reported: Result<T, AllocError>) -> Result<(), AllocError> {
+        if let Ok(text) = reported {
             let _ = self.rt.eprint(text);
         }
         Ok(())
     }
 
     fn lose(&self, written: &io::Result<()>) -> Result<(), AllocError> {
-        if let Some(text) = told_loss(written) {
+        if let Some(text) = loss_report(written) {
             let _ = self.rt.eprintln(&text);
         }
         Ok(())

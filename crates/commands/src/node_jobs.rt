@@ -6,11 +6,11 @@ ghost use Rattle.clap.specs.Simple.{app_of};
 ghost use Rattle.clap.specs.Walk.{rows_of};
 ghost use Rattle.clap.specs.declared.builder.command.Command.TheViews.{out-Command as fields_of};
 ghost use Rattle.commands.specs.Jobs.{placed};
-ghost use Rattle.commands.specs.OnNodes.{are_left, own_file, with_node};
+ghost use Rattle.commands.specs.OnNodes.{are_left, own_file, with_node_option};
 ghost use Rattle.job_config.specs.Configured.{numbers_in};
 ghost use Rattle.job_parts.specs.Inputs.{AreInputs, input, input_value};
 ghost use Rattle.job_parts.specs.declared.inputs.Content.TheVariants.{Node};
-ghost use Rattle.job_parts.specs.declared.status.Status.TheVariants.{Failed};
+ghost use Rattle.job_parts.specs.declared.status.ExitStatus.TheVariants.{Failed};
 ghost use Rattle.node_parts.specs.Nodes.{are_within, windows_of};
 
 use crate::jobs::{Job, JobEnd};
@@ -25,7 +25,7 @@ use job_packets::packet_options::HeaderWords;
 use job_parts::arguments::text_of;
 use job_parts::faults::Fault;
 use job_parts::inputs::{Content, Inputs};
-use job_parts::status::Status;
+use job_parts::status::ExitStatus;
 use job_texts::images::ImageArgs;
 use job_texts::policies::PolicyWords;
 use job_weigh::weigh::WeighWords;
@@ -54,7 +54,7 @@ impl<'a> JobEnd<'a> {
         ensures { result ≡ record { status = Failed; fault = Some fault.entry; full = None; lost = 0 } }
     {
         JobEnd {
-            status: Status::Failed,
+            status: ExitStatus::Failed,
             fault: Some(fault),
             full: None,
             lost: 0,
@@ -67,9 +67,9 @@ impl<'a> JobEnd<'a> {
 /// # Errors
 ///
 /// An error if memory is refused.
-pub fn with_node<'a>(alloc: Global, command: Command<'a>) -> Result<Command<'a>, AllocError>
+pub fn with_node_option<'a>(alloc: Global, command: Command<'a>) -> Result<Command<'a>, AllocError>
     requires { (fields_of command).has_globals ≡ false }
-    ensures shape { IfOk result (λ c. app_of c ≡ with_node (app_of command.entry)) }
+    ensures shape { IfOk result (λ c. app_of c ≡ with_node_option (app_of command.entry)) }
     ensures local { IfOk result (λ c. (fields_of c).has_globals ≡ false) }
 {
     let node = node_option(alloc);

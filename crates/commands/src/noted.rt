@@ -27,7 +27,7 @@ pub const MAX_TEXT: u64 = 1_048_576;
 
 /// Why a file could not be read or written.
 #[derive(Debug, Drop)]
-pub enum Cause {
+pub enum FileCause {
     /// What the system says.
     System(io::Error),
     /// It is no text.
@@ -65,12 +65,12 @@ impl FileNode {
 
 /// What is noted of the files that a job reads, in the order in which it reads them.
 #[derive(Drop)]
-pub struct Noted<'a> {
+pub struct FileNotes<'a> {
     inputs: Inputs<'a>,
     is_dump: bool,
     node: Option<FileNode>,
     maps: Option<MapSizes>,
-    cause: Option<Cause>,
+    cause: Option<FileCause>,
     lines: Option<String>,
     last: Option<Vec<u8>>,
 }
@@ -94,7 +94,7 @@ pub fn most_of(content: Content) -> u64
 
 /// Why bytes are not what a file must be, if they are not: no text, or one that is too long. The job says what is wrong
 /// with an image.
-fn no_content(content: Content, bytes: &[u8]) -> Option<Cause> {
+fn no_content(content: Content, bytes: &[u8]) -> Option<FileCause> {
     match content {
         Content::Lines => no_text(bytes),
         Content::Text | Content::Table | Content::Node => match too_long(bytes) {
@@ -118,21 +118,21 @@ fn may_be_text(content: Content) -> bool
 }
 
 /// Why bytes are no text, if they are none.
-fn no_text(bytes: &[u8]) -> Option<Cause> {
+fn no_text(bytes: &[u8]) -> Option<FileCause> {
     if is_utf8_baseline(bytes) {
         return None;
     }
     Some(if is_image(bytes) {
-        Cause::Image
+        FileCause::Image
     } else {
-        Cause::NoText
+        FileCause::NoText
     })
 }
 
 /// That bytes are more than a text has, if they are.
-fn too_long(bytes: &[u8]) -> Option<Cause> {
+fn too_long(bytes: &[u8]) -> Option<FileCause> {
     if bytes.len() as u64 > MAX_TEXT {
-        Some(Cause::TooLong)
+        Some(FileCause::TooLong)
     } else {
         None
     }
@@ -145,13 +145,13 @@ fn packet_lines(alloc: Global, bytes: &[u8]) -> Result<Vec<u8>, AllocError> {
     Ok(lines.into_bytes())
 }
 
-impl<'a> Noted<'a> {
+impl<'a> FileNotes<'a> {
     /// Nothing yet, of files that are read in the order of these.
-    pub fn new(inputs: Inputs<'a>) -> Noted<'a>
+    pub fn new(inputs: Inputs<'a>) -> FileNotes<'a>
         ensures dump { reads_dump result ≡ false }
         ensures maps { maps_for result ≡ None }
     {
-        Noted {
+        FileNotes {
             inputs,
             is_dump: false,
             node: None,
@@ -165,12 +165,12 @@ impl<'a> Noted<'a> {
     /// Nothing yet, of the files that the job reads. `node` is the node whose file says the job's maps, if one says
     /// them. The lines of a dump are given as its packet lines. Of the text of a program or a table in the place of an
     /// image the image is given.
-    pub fn of_job(job: &'a Job, node: Option<FileNode>) -> Noted<'a>
+    pub fn of_job(job: &'a Job, node: Option<FileNode>) -> FileNotes<'a>
         ensures dump { reads_dump result ≡ is_dump job.now }
         ensures maps { maps_for result ≡ maps_of_job job.now }
     {
         let facts = job.facts();
-        let mut noted = Noted::new(job.inputs());
+        let mut noted = FileNotes::new(job.inputs());
         noted.is_dump = facts.is_dump;
         noted.node = node;
         noted.maps = facts.maps;
@@ -179,11 +179,11 @@ impl<'a> Noted<'a> {
 
     /// Nothing yet, of the files that a talk on this node reads. Of the text of a program or a table in the
     /// place of its image the image is given.
-    pub fn of_node(node: &'a NodeSource) -> Noted<'a>
+    pub fn of_node(node: &'a NodeSource) -> FileNotes<'a>
         ensures dump { reads_dump result ≡ false }
         ensures maps { maps_for result ≡ Some (maps_of_node node.now) }
     {
-        let mut noted = Noted::new(node.inputs());
+        let mut noted = FileNotes::new(node.inputs());
         noted.maps = Some(maps_of_node(node));
         noted
     }
@@ -214,7 +214,7 @@ impl<'a> Noted<'a> {
     }
 
     /// Why the last file could not be read or written, if it could not.
-    pub fn cause(&self) -> Option<&Cause>
+    pub fn cause(&self) -> Option<&FileCause>
         ensures { option_copied result ≡ self.now.cause }
     {
         self.cause.as_ref()
@@ -268,7 +268,7 @@ impl<'a> Noted<'a> {
     }
 
     /// Notes why a file could not be read or written.
-    pub fn refuse(&mut self, cause: Cause) -> Cannot
+    pub fn refuse(&mut self, cause: FileCause) -> Cannot
         ensures dump { reads_dump self.new ≡ reads_dump self.old }
         ensures maps { maps_for self.new ≡ maps_for self.old }
     {
@@ -281,7 +281,7 @@ impl<'a> Noted<'a> {
         ensures dump { reads_dump self.new ≡ reads_dump self.old }
         ensures maps { maps_for self.new ≡ maps_for self.old }
     {
-        self.refuse(Cause::System(io::Error::from(io::ErrorKind::OutOfMemory)))
+        self.refuse(FileCause::System(io::Error::from(io::ErrorKind::OutOfMemory)))
     }
 
     /// Keeps bytes that were read, if there is memory.

@@ -17,7 +17,7 @@ fn names_of_work(work: &Work) -> ReadNames<'_>
     match work {
         Work::Once(job) => job.names(),
         Work::OnNode(own) => own.job.names().with(Some(own.node.as_str())),
-        Work::Live(_) | Work::Told(_) => ReadNames::of(None, None),
+        Work::Live(_) | Work::Printed(_) => ReadNames::of(None, None),
     }
 }
 

@@ -6,7 +6,7 @@ ghost use Rattle.job_packets.specs.MadePackets.{file_of};
 ghost use Rattle.commands.specs.ReadNames.{place_name, source_name};
 
 use job_config::sources::NodeSource;
-use job_packets::orders::{Order, Source};
+use job_packets::orders::{Order, DataSource};
 use job_rehearse::places::PlaceWords;
 
 /// The names of the files that a work reads: at most three.
@@ -85,7 +85,7 @@ pub fn order_name(order: &Order) -> Option<&str>
     match order {
         Order::Load { image, .. } => Some(image.as_str()),
         Order::Write {
-            source: Source::File(name),
+            source: DataSource::File(name),
             ..
         } => Some(name.as_str()),
         Order::Read { .. } | Order::Write { .. } | Order::Rmw { .. } => None,

@@ -2,11 +2,11 @@
 
 ghost use Rattle.std.specs.Prelude.{◌≡◌, IfOk, Some, string_bytes};
 ghost use Rattle.std.specs.IoError.{error_kind};
-ghost use Rattle.commands.specs.Refusals.{IsArgumentFault, TellsMore, ask_frames, fault_words, stream_of};
-ghost use Rattle.job_parts.specs.Statuses.{status_code, usage_status};
+ghost use Rattle.commands.specs.Refusals.{IsArgumentFault, ReportsMore, ask_frames, usage_fault_words, stream_of};
+ghost use Rattle.job_parts.specs.Statuses.{exit_code, usage_status};
 
-use crate::slips::told_option;
-use job_parts::status::Status;
+use crate::slips::option_report;
+use job_parts::status::ExitStatus;
 use job_parts::usage::UsageFault;
 use std::alloc::{AllocError, Global};
 use std::fmt;
@@ -59,46 +59,46 @@ pub fn stream_of(fault: &UsageFault, words: &[&str]) -> Stream
 }
 
 /// How a program ends whose command line has this fault.
-pub fn usage_end(fault: &UsageFault) -> Status
-    ensures { status_code result ≡ usage_status fault.now }
+pub fn usage_end(fault: &UsageFault) -> ExitStatus
+    ensures { exit_code result ≡ usage_status fault.now }
 {
     match fault {
-        UsageFault::Parse(_) | UsageFault::BadOption => Status::Misused,
-        UsageFault::Memory => Status::Failed,
+        UsageFault::Parse(_) | UsageFault::BadOption => ExitStatus::Misused,
+        UsageFault::Memory => ExitStatus::Failed,
     }
 }
 
-/// What more is printed of a fault of these words: of a bad option the word that it may not be ([`told_option`]).
+/// What more is printed of a fault of these words: of a bad option the word that it may not be ([`option_report`]).
 ///
 /// # Errors
 ///
 /// An error if memory is refused.
-pub fn told_fault(alloc: Global, fault: &UsageFault, words: &[&str]) -> Result<String, AllocError>
-    ensures { IfOk result (λ more. TellsMore fault.now (string_bytes more)) }
+pub fn fault_report(alloc: Global, fault: &UsageFault, words: &[&str]) -> Result<String, AllocError>
+    ensures { IfOk result (λ more. ReportsMore fault.now (string_bytes more)) }
 {
     match fault {
-        UsageFault::BadOption => told_option(alloc, words),
+        UsageFault::BadOption => option_report(alloc, words),
         UsageFault::Parse(_) | UsageFault::Memory => Ok(String::new(alloc)),
     }
 }
 
 /// What is printed of a fault of the command line, with its last line feed.
 #[derive(Clone, Copy, Debug)]
-pub struct Refusal<'a> {
+pub struct UsageText<'a> {
     fault: &'a UsageFault,
 }
 
-impl<'a> Refusal<'a> {
+impl<'a> UsageText<'a> {
     /// What is printed of this fault.
-    pub fn of(fault: &'a UsageFault) -> Refusal<'a>
+    pub fn of(fault: &'a UsageFault) -> UsageText<'a>
         ensures { result.fault.now ≡ fault.now }
     {
-        Refusal { fault }
+        UsageText { fault }
     }
 }
 
-impl fmt::Display for Refusal<'_> {
-    ghost output = { λ refusal. Some (fault_words refusal.fault.now) };
+impl fmt::Display for UsageText<'_> {
+    ghost output = { λ refusal. Some (usage_fault_words refusal.fault.now) };
 
     fn fmt<W: fmt::Write>(&self, f: &mut fmt::Formatter<W>) -> fmt::Result {
         match self.fault {

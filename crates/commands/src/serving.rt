@@ -7,8 +7,8 @@ ghost use Rattle.job_ports.specs.ServedFile.{IsNotServed, ServesFile};
 
 use job_config::node_lines::NodeLines;
 use job_parts::faults::Fault;
-use job_parts::status::Status;
-use job_parts::stops::Halt;
+use job_parts::status::ExitStatus;
+use job_parts::stops::JobStop;
 use job_parts::storage::Files;
 use job_ports::serve::serve_file;
 use std::alloc::Global;
@@ -16,7 +16,7 @@ use std::io::Write;
 use std::marker::Brand;
 use std::sync::Wait;
 use std::thread::Threads;
-use target::Opened;
+use target::NodeHistory;
 
 /// Who serves all ports at once, if anybody does: that takes threads.
 pub trait Serves {
@@ -38,7 +38,7 @@ pub trait Serves {
         files: &mut F,
         out: &mut W,
         lost: &mut u64,
-    ) -> Result<Status, Halt<'a>>
+    ) -> Result<ExitStatus, JobStop<'a>>
         requires { shares }
         ensures done { serves ≡ true → IfOk result (IsDoneWith (ServesFile F.reads args.now
             files.old files.new (W.contents out.old) (W.contents out.new))) }
@@ -79,8 +79,8 @@ impl<R: Threads + Wait + Sync> Serves for Threaded<'_, R> {
         files: &mut F,
         out: &mut W,
         lost: &mut u64,
-    ) -> Result<Status, Halt<'a>> {
-        serve_file::<Brand, _, _, _>(self.rt, alloc, Opened::new(), args, files, out, lost)
+    ) -> Result<ExitStatus, JobStop<'a>> {
+        serve_file::<Brand, _, _, _>(self.rt, alloc, NodeHistory::new(), args, files, out, lost)
     }
 }
 
@@ -106,7 +106,7 @@ impl Serves for Nobody {
         _files: &mut F,
         _out: &mut W,
         _lost: &mut u64,
-    ) -> Result<Status, Halt<'a>> {
-        Err(Halt::Ended(Fault::NoMemory))
+    ) -> Result<ExitStatus, JobStop<'a>> {
+        Err(JobStop::Ended(Fault::NoMemory))
     }
 }

@@ -4,8 +4,8 @@ ghost use Rattle.std.specs.Prelude.{◌<◌, ◌≤◌};
 
 use bver::{Accepted, verify};
 use job_config::own_node::NODE_ADDRESS;
-use job_rehearse::askers::{Asker, askers_of};
-use job_rehearse::loaders::Loader;
+use job_rehearse::askers::{LoadInitiator, askers_of};
+use job_rehearse::loaders::LoadSender;
 use job_rehearse::passing::{Passing, is_kind, loader_passing};
 use machine::MapSizes;
 use policy::{Policy, PortRule, RuleKind, compile_policy};
@@ -83,10 +83,10 @@ fn judge_of(
 }
 
 /// Whether a program ever lets a load of the smallest image pass.
-fn passes(alloc: Global, judge: &Accepted, asker: Asker, port: u8) -> Result<bool, AllocError>
+fn passes(alloc: Global, judge: &Accepted, asker: LoadInitiator, port: u8) -> Result<bool, AllocError>
     requires { port < 32 }
 {
-    let loader = Loader {
+    let loader = LoadSender {
         port,
         initiator: asker.initiator.byte,
         key: asker.key.byte,
@@ -101,7 +101,7 @@ fn is_held(
     alloc: Global,
     held: &Accepted,
     freed: &Accepted,
-    asker: Asker,
+    asker: LoadInitiator,
     port: u8,
 ) -> Result<bool, AllocError>
     requires { port < 32 }
@@ -114,7 +114,7 @@ fn are_held(
     alloc: Global,
     held: &Accepted,
     freed: &Accepted,
-    askers: &[Asker],
+    askers: &[LoadInitiator],
     ports: u8,
 ) -> Result<bool, AllocError>
     requires { ports ≤ 32 }

@@ -1,14 +1,14 @@
 //! The job `show` over lines that come one by one.
 
 ghost use Rattle.std.specs.Prelude.{◌≡◌, ◌⊎◌, IfErr, IfOk, OnOk};
-ghost use Rattle.job_parts.specs.Printed.{fault_line};
-ghost use Rattle.commands.specs.ShownTalk.{BreaksShow, IsShown, IsUnsent, IsUntold, ShowsTalk, ShowsOne};
+ghost use Rattle.job_parts.specs.Printed.{job_fault_line};
+ghost use Rattle.commands.specs.ShownTalk.{BreaksShow, IsShown, IsShownUnsent, IsUnreported, ShowsTalk, ShowsOne};
 
 use job_live::talk::Talk;
 use job_parts::bad_lines::BadLine;
 use job_parts::faults::Fault;
-use job_parts::status::Status;
-use job_parts::stops::{Halt, WriteFault};
+use job_parts::status::ExitStatus;
+use job_parts::stops::{JobStop, WriteFault};
 use job_show::shown_lines::shown_line;
 use std::alloc::Global;
 use std::io::Write;
@@ -17,13 +17,13 @@ use std::io::Write;
 const STANDARD_INPUT: &str = "-";
 
 /// Takes the next line, the one of that number, and sends what it is in words. Returns whether there was one.
-fn show_next<'a, T: Talk>(alloc: Global, talk: &mut T, number: usize) -> Result<bool, Halt<'a>>
-    ensures shown { IfOk result (λ was_given. ShowsOne T.came T.sent was_given talk.old talk.new) }
-    ensures stops { IfErr result (IsUntold T.came T.sent T.unsent T.missed number talk.old talk.new) }
+fn show_next<'a, T: Talk>(alloc: Global, talk: &mut T, number: usize) -> Result<bool, JobStop<'a>>
+    ensures shown { IfOk result (λ was_given. ShowsOne T.received T.sent was_given talk.old talk.new) }
+    ensures stops { IfErr result (IsUnreported T.received T.sent T.unsent T.missed number talk.old talk.new) }
 {
     let mut line = String::new(alloc);
     let Ok(is_given) = talk.next(&mut line) else {
-        return Err(Halt::Ended(Fault::CannotRead(STANDARD_INPUT)));
+        return Err(JobStop::Ended(Fault::CannotRead(STANDARD_INPUT)));
     };
     if !is_given {
         return Ok(false);
@@ -31,9 +31,9 @@ fn show_next<'a, T: Talk>(alloc: Global, talk: &mut T, number: usize) -> Result<
     match shown_line(alloc, line.as_str()) {
         Ok(text) => match talk.send(text.as_bytes()) {
             Ok(()) => Ok(true),
-            Err(_) => Err(Halt::Unwritten(WriteFault)),
+            Err(_) => Err(JobStop::Unwritten(WriteFault)),
         },
-        Err(fault) => Err(Halt::Ended(Fault::BadLine {
+        Err(fault) => Err(JobStop::Ended(Fault::BadLine {
             number,
             fault: BadLine::Line(fault),
         })),
@@ -41,9 +41,9 @@ fn show_next<'a, T: Talk>(alloc: Global, talk: &mut T, number: usize) -> Result<
 }
 
 /// Sends what each line is in words, before the next is asked for.
-fn show_all<'a, T: Talk>(alloc: Global, talk: &mut T) -> Result<(), Halt<'a>>
-    ensures shown { OnOk result (IsShown T.came T.sent talk.old talk.new) }
-    ensures stops { IfErr result (BreaksShow T.came T.sent T.unsent T.missed talk.old talk.new) }
+fn show_all<'a, T: Talk>(alloc: Global, talk: &mut T) -> Result<(), JobStop<'a>>
+    ensures shown { OnOk result (IsShown T.received T.sent talk.old talk.new) }
+    ensures stops { IfErr result (BreaksShow T.received T.sent T.unsent T.missed talk.old talk.new) }
 {
     for number in 1..usize::MAX {
         let is_given = show_next(alloc, talk, number)?;
@@ -56,9 +56,9 @@ fn show_all<'a, T: Talk>(alloc: Global, talk: &mut T) -> Result<(), Halt<'a>>
 
 /// Sends the line of the fault that ended it.
 fn tell<T: Talk>(alloc: Global, fault: &Fault<'_>, talk: &mut T) -> Result<(), WriteFault>
-    ensures told { OnOk result (T.sent talk.old (fault_line fault.now) talk.new) }
+    ensures reported { OnOk result (T.sent talk.old (job_fault_line fault.now) talk.new) }
     ensures lost { IfErr result (λ _.
-        T.unsent talk.old (fault_line fault.now) talk.new ⊎ (talk.new ≡ talk.old)) }
+        T.unsent talk.old (job_fault_line fault.now) talk.new ⊎ (talk.new ≡ talk.old)) }
 {
     let mut text = Vec::new(alloc);
     writeln!(text, "{fault}")?;
@@ -71,16 +71,16 @@ fn tell<T: Talk>(alloc: Global, fault: &Fault<'_>, talk: &mut T) -> Result<(), W
 /// # Errors
 ///
 /// `WriteFault` if what a line is could not be sent. Nothing is sent after that.
-pub fn show_talk<T: Talk>(alloc: Global, talk: &mut T) -> Result<Status, WriteFault>
-    ensures shows { IfOk result (ShowsTalk T.came T.sent T.unsent T.missed talk.old talk.new) }
-    ensures unsent { IfErr result (IsUnsent T.came T.sent T.unsent T.missed talk.old talk.new) }
+pub fn show_talk<T: Talk>(alloc: Global, talk: &mut T) -> Result<ExitStatus, WriteFault>
+    ensures shows { IfOk result (ShowsTalk T.received T.sent T.unsent T.missed talk.old talk.new) }
+    ensures unsent { IfErr result (IsShownUnsent T.received T.sent T.unsent T.missed talk.old talk.new) }
 {
     match show_all(alloc, talk) {
-        Ok(()) => Ok(Status::Done),
+        Ok(()) => Ok(ExitStatus::Done),
         Err(halt) => {
             let fault = halt.fault()?;
             tell(alloc, &fault, talk)?;
-            Ok(Status::Failed)
+            Ok(ExitStatus::Failed)
         }
     }
 }

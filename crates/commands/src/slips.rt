@@ -11,7 +11,7 @@ use job_live::words::scrub_of;
 use job_packets::orders::Order;
 use job_packets::packet::packet_words;
 use job_packets::slips::{PacketFault, PacketWord, Slip};
-use job_parts::arguments::{is_set, text_of};
+use job_parts::arguments::{is_flag_set, text_of};
 use job_parts::options::{ports_of, sizes_of};
 use job_parts::usage::UsageFault;
 use job_rehearse::loaders::{is_any_beside, loader_of};
@@ -255,7 +255,7 @@ fn input_line(alloc: Global, name: &str, found: &ArgMatches) -> Result<String, A
 /// The line of words of which each is one that it may be, but not beside the other. These are `--frames` and `--ports`,
 /// `--any` and options of loads that are done or the file of a node, or two files that are standard input.
 fn pair_line(alloc: Global, name: &str, found: &ArgMatches) -> Result<String, AllocError> {
-    if is_set(found, "frames") {
+    if is_flag_set(found, "frames") {
         return line_of(alloc, "--ports", text_of(found, "ports"), ONE_PORT);
     }
     if is_any_beside(found) {
@@ -379,7 +379,7 @@ fn option_line(alloc: Global, name: &str, found: &ArgMatches) -> Result<String, 
 /// # Errors
 ///
 /// An error if memory is refused.
-pub fn told_option(alloc: Global, words: &[&str]) -> Result<String, AllocError> {
+pub fn option_report(alloc: Global, words: &[&str]) -> Result<String, AllocError> {
     let Ok(found) = command_line(alloc)?.try_get_matches_from(words) else {
         return Ok(String::new(alloc));
     };
@@ -415,7 +415,7 @@ pub(crate) fn advice(job: &Job) -> &'static str {
 }
 
 /// The line after `cannot write NAME` of a job that reads nothing, because its OUT is the file that it would read.
-pub(crate) fn told_output(job: &Job) -> &'static str {
+pub(crate) fn output_report(job: &Job) -> &'static str {
     let inputs = job.inputs();
     match (inputs.first, inputs.output) {
         (Some(input), Some(output)) if input.name == output => OWN_SOURCE,

@@ -5,13 +5,13 @@ ghost use Rattle.clap.specs.Simple.{app_of, subcommand_rows_of};
 ghost use Rattle.clap.specs.Values.{kind_of};
 ghost use Rattle.clap.specs.Walk.{rows_of, texts};
 ghost use Rattle.clap.specs.Matches.{found_of};
-ghost use Rattle.commands.specs.CommandLine.{rmapctl_app, with_chart_jobs, with_first_jobs, with_packet_jobs, IsPlacedBy, Names, NamesPlaced, NamesPlain, NamesWork, NamesNone, LacksWork, Refuses, RefusesPlace, RefusesPlaced, RefusesPlain, TellsRefusal};
-ghost use Rattle.commands.specs.Words.{name_of};
+ghost use Rattle.commands.specs.CommandLine.{rmapctl_app, with_chart_jobs, with_first_jobs, with_packet_jobs, IsNodeJobOf, Names, NamesPlaced, NamesPlain, NamesWork, NamesNone, LacksWork, RefusesMatches, RefusesNodeFile, RefusesPlaced, RefusesPlain, ReportsRefusal};
+ghost use Rattle.commands.specs.Words.{name_of_word};
 
 use crate::jobs::Job;
-use crate::node_jobs::{NodeJob, beside_file, own_file, with_node};
+use crate::node_jobs::{NodeJob, beside_file, own_file, with_node_option};
 use crate::one_input::reads_input_twice;
-use crate::word::Word;
+use crate::word::SubcommandWord;
 use crate::work::Work;
 use clap::error::ErrorKind;
 use clap::{ArgMatches, Command, Error};
@@ -49,9 +49,9 @@ fn with_first_jobs<'a>(alloc: Global, rmapctl: Command<'a>) -> Result<Command<'a
 {
     let asm = asm_command(alloc)?;
     let dis = dis_command(alloc)?;
-    let verify = with_node(alloc, verify_command(alloc)?)?;
+    let verify = with_node_option(alloc, verify_command(alloc)?)?;
     let judge = judge_command(alloc)?;
-    let policy = with_node(alloc, policy_command(alloc)?)?;
+    let policy = with_node_option(alloc, policy_command(alloc)?)?;
     rmapctl
         .subcommand(asm)?
         .subcommand(dis)?
@@ -64,9 +64,9 @@ fn with_first_jobs<'a>(alloc: Global, rmapctl: Command<'a>) -> Result<Command<'a
 fn with_packet_jobs<'a>(alloc: Global, rmapctl: Command<'a>) -> Result<Command<'a>, AllocError>
     ensures { IfOk result (λ c. app_of c ≡ with_packet_jobs (app_of rmapctl.entry)) }
 {
-    let packet = with_node(alloc, packet_command(alloc)?)?;
+    let packet = with_node_option(alloc, packet_command(alloc)?)?;
     let show = show_command(alloc)?;
-    let decide = with_node(alloc, decide_command(alloc)?)?;
+    let decide = with_node_option(alloc, decide_command(alloc)?)?;
     let trace = trace_command(alloc)?;
     rmapctl
         .subcommand(packet)?
@@ -80,8 +80,8 @@ fn with_packet_jobs<'a>(alloc: Global, rmapctl: Command<'a>) -> Result<Command<'
 fn with_chart_jobs<'a>(alloc: Global, rmapctl: Command<'a>) -> Result<Command<'a>, AllocError>
     ensures { IfOk result (λ c. app_of c ≡ with_chart_jobs (app_of rmapctl.entry)) }
 {
-    let compare = with_node(alloc, compare_command(alloc)?)?;
-    let map = with_node(alloc, map_command(alloc)?)?;
+    let compare = with_node_option(alloc, compare_command(alloc)?)?;
+    let map = with_node_option(alloc, map_command(alloc)?)?;
     let rehearse = rehearse_command(alloc)?;
     let suite = suite_command(alloc)?;
     rmapctl
@@ -99,8 +99,8 @@ pub(crate) fn command_line<'a>(alloc: Global) -> Result<Command<'a>, AllocError>
     let sim = sim_command(alloc)?;
     let live = live_command(alloc)?;
     let explain = explain_command(alloc)?;
-    let why = with_node(alloc, why_command(alloc)?)?;
-    let weigh = with_node(alloc, weigh_command(alloc)?)?;
+    let why = with_node_option(alloc, why_command(alloc)?)?;
+    let weigh = with_node_option(alloc, weigh_command(alloc)?)?;
     let node = node_file_command(alloc)?;
     let rmapctl = Command::new(alloc, "rmapctl").bin_name("rmapctl")?;
     let about = "An RMAP target whose commands are judged by BPF programs";
@@ -118,13 +118,13 @@ pub(crate) fn command_line<'a>(alloc: Global) -> Result<Command<'a>, AllocError>
         .subcommand(why)?
         .subcommand(weigh)?
         .subcommand(node)?;
-    let told = with_packet_jobs(alloc, all)?;
-    with_chart_jobs(alloc, told)
+    let reported = with_packet_jobs(alloc, all)?;
+    with_chart_jobs(alloc, reported)
 }
 
 /// What is printed of words that `clap` refuses.
-fn told(alloc: Global, refusal: &Error) -> UsageFault
-    ensures { TellsRefusal (kind_of refusal.now) result }
+fn reported(alloc: Global, refusal: &Error) -> UsageFault
+    ensures { ReportsRefusal (kind_of refusal.now) result }
 {
     if refusal.kind() == ErrorKind::OutOfMemory {
         return UsageFault::Memory;
@@ -136,31 +136,31 @@ fn told(alloc: Global, refusal: &Error) -> UsageFault
 }
 
 /// What the subcommand of this word names with its matches, whether they name a node's file or not: a job, or a talk.
-fn plain_named(alloc: Global, word: Word, rows: &ArgMatches) -> Result<Work, UsageFault>
-    ensures ok { IfOk result (NamesPlain (name_of word, rows_of (found_of rows.now))) }
+fn plain_named(alloc: Global, word: SubcommandWord, rows: &ArgMatches) -> Result<Work, UsageFault>
+    ensures ok { IfOk result (NamesPlain (name_of_word word, rows_of (found_of rows.now))) }
     ensures err { IfErr result (RefusesPlain word (rows_of (found_of rows.now))) }
 {
     let job = match word {
-        Word::Live => return Ok(Work::Live(live_job(alloc, rows)?)),
-        Word::Asm => Job::Assemble(asm_job(alloc, rows)?),
-        Word::Dis => Job::Disassemble(dis_job(alloc, rows)?),
-        Word::Verify => Job::Verify(image_args(alloc, rows)?),
-        Word::Judge => Job::Judge(node_lines(alloc, rows)?),
-        Word::Policy => Job::Policy(policy_job(alloc, rows)?),
-        Word::Serve => Job::Serve(node_lines(alloc, rows)?),
-        Word::Sim => Job::Simulate(node_lines(alloc, rows)?),
-        Word::Explain => Job::Explain(explain_job(alloc, rows)?),
-        Word::Why => Job::Why(image_args(alloc, rows)?),
-        Word::Weigh => Job::Weigh(weigh_job(alloc, rows)?),
-        Word::Node => Job::Node(node_file_job(alloc, rows)?),
-        Word::Packet => Job::Packet(packet_job(alloc, rows)?),
-        Word::Show => Job::Show(show_job(alloc, rows)?),
-        Word::Decide => Job::Decide(decide_job(alloc, rows)?),
-        Word::Trace => Job::Trace(node_lines(alloc, rows)?),
-        Word::Compare => Job::Compare(compare_job(alloc, rows)?),
-        Word::Map => Job::Map(map_job(alloc, rows)?),
-        Word::Rehearse => Job::Rehearse(rehearse_job(alloc, rows)?),
-        Word::Suite => Job::Suite(suite_job(alloc, rows)?),
+        SubcommandWord::Live => return Ok(Work::Live(live_job(alloc, rows)?)),
+        SubcommandWord::Asm => Job::Assemble(asm_job(alloc, rows)?),
+        SubcommandWord::Dis => Job::Disassemble(dis_job(alloc, rows)?),
+        SubcommandWord::Verify => Job::Verify(image_args(alloc, rows)?),
+        SubcommandWord::Judge => Job::Judge(node_lines(alloc, rows)?),
+        SubcommandWord::Policy => Job::Policy(policy_job(alloc, rows)?),
+        SubcommandWord::Serve => Job::Serve(node_lines(alloc, rows)?),
+        SubcommandWord::Sim => Job::Simulate(node_lines(alloc, rows)?),
+        SubcommandWord::Explain => Job::Explain(explain_job(alloc, rows)?),
+        SubcommandWord::Why => Job::Why(image_args(alloc, rows)?),
+        SubcommandWord::Weigh => Job::Weigh(weigh_job(alloc, rows)?),
+        SubcommandWord::Node => Job::Node(node_file_job(alloc, rows)?),
+        SubcommandWord::Packet => Job::Packet(packet_job(alloc, rows)?),
+        SubcommandWord::Show => Job::Show(show_job(alloc, rows)?),
+        SubcommandWord::Decide => Job::Decide(decide_job(alloc, rows)?),
+        SubcommandWord::Trace => Job::Trace(node_lines(alloc, rows)?),
+        SubcommandWord::Compare => Job::Compare(compare_job(alloc, rows)?),
+        SubcommandWord::Map => Job::Map(map_job(alloc, rows)?),
+        SubcommandWord::Rehearse => Job::Rehearse(rehearse_job(alloc, rows)?),
+        SubcommandWord::Suite => Job::Suite(suite_job(alloc, rows)?),
     };
     Ok(Work::Once(job))
 }
@@ -168,8 +168,8 @@ fn plain_named(alloc: Global, word: Word, rows: &ArgMatches) -> Result<Work, Usa
 /// The job of these matches, or the job for the node of the file that they name.
 #[tactic(auto, using(crate::proofs::Placing::spoils_place))]
 fn placed_by(alloc: Global, job: Job, rows: &ArgMatches) -> Result<Work, UsageFault>
-    ensures ok { IfOk result (IsPlacedBy job (rows_of (found_of rows.now))) }
-    ensures err { IfErr result (RefusesPlace (rows_of (found_of rows.now))) }
+    ensures ok { IfOk result (IsNodeJobOf job (rows_of (found_of rows.now))) }
+    ensures err { IfErr result (RefusesNodeFile (rows_of (found_of rows.now))) }
 {
     let Some(name) = own_file(&job, rows) else {
         return Ok(Work::Once(job));
@@ -185,23 +185,23 @@ fn placed_by(alloc: Global, job: Job, rows: &ArgMatches) -> Result<Work, UsageFa
 
 /// What the subcommand of this word names with its matches, whatever of it is standard input.
 #[tactic(auto, using(crate::proofs::Placing::places, crate::proofs::Placing::names_talk, crate::proofs::Placing::is_unplaced, crate::proofs::Placing::is_no_text, crate::proofs::Placing::refuses_plain, crate::proofs::Placing::refuses_place))]
-fn placed_named(alloc: Global, word: Word, rows: &ArgMatches) -> Result<Work, UsageFault>
-    ensures ok { IfOk result (NamesPlaced (Some (name_of word, rows_of (found_of rows.now)))) }
+fn placed_named(alloc: Global, word: SubcommandWord, rows: &ArgMatches) -> Result<Work, UsageFault>
+    ensures ok { IfOk result (NamesPlaced (Some (name_of_word word, rows_of (found_of rows.now)))) }
     ensures err { IfErr result (RefusesPlaced word (rows_of (found_of rows.now))) }
 {
     match plain_named(alloc, word, rows)? {
         Work::Once(job) => placed_by(alloc, job, rows),
         Work::OnNode(_) => unreachable!(),
-        Work::Told(_) => unreachable!(),
+        Work::Printed(_) => unreachable!(),
         Work::Live(words) => Ok(Work::Live(words)),
     }
 }
 
 /// What the subcommand of this word names, with its matches.
 #[tactic(auto, using(crate::proofs::Placing::names_apart, crate::proofs::Placing::refuses_placed, crate::proofs::Placing::refuses_input))]
-fn work_named(alloc: Global, word: Word, rows: &ArgMatches) -> Result<Work, UsageFault>
-    ensures ok { IfOk result (Names (Some (name_of word, rows_of (found_of rows.now)))) }
-    ensures err { IfErr result (Refuses word (rows_of (found_of rows.now))) }
+fn work_named(alloc: Global, word: SubcommandWord, rows: &ArgMatches) -> Result<Work, UsageFault>
+    ensures ok { IfOk result (Names (Some (name_of_word word, rows_of (found_of rows.now)))) }
+    ensures err { IfErr result (RefusesMatches word (rows_of (found_of rows.now))) }
 {
     let work = placed_named(alloc, word, rows)?;
     if reads_input_twice(&work) {
@@ -228,7 +228,7 @@ fn work_of(alloc: Global, found: &ArgMatches) -> Result<Work, UsageFault>
     let Some((name, rows)) = found_in(found) else {
         return Err(UsageFault::BadOption);
     };
-    let Some(word) = Word::named(name) else {
+    let Some(word) = SubcommandWord::named(name) else {
         return Err(UsageFault::BadOption);
     };
     work_named(alloc, word, rows)
@@ -250,6 +250,6 @@ pub fn words(alloc: Global, words: &[&str]) -> Result<Work, UsageFault>
     let command = command_line(alloc)?;
     match command.try_get_matches_from(words) {
         Ok(found) => work_of(alloc, &found),
-        Err(refusal) => Err(told(alloc, &refusal)),
+        Err(refusal) => Err(reported(alloc, &refusal)),
     }
 }

@@ -1,11 +1,11 @@
 //! The words of the subcommands.
 
 ghost use Rattle.std.specs.Prelude.{◌≡◌, MatchOption};
-ghost use Rattle.commands.specs.Words.{IsNoWord, name_of};
+ghost use Rattle.commands.specs.Words.{IsNoWord, name_of_word};
 
 /// The word of a subcommand.
 #[derive(Clone, Copy, Debug, PartialEq, Eq)]
-pub enum Word {
+pub enum SubcommandWord {
     /// `asm`.
     Asm,
     /// `dis`.
@@ -48,32 +48,32 @@ pub enum Word {
     Suite,
 }
 
-impl Word {
+impl SubcommandWord {
     /// The word that is written so, if it is one.
-    pub fn named(name: &str) -> Option<Word>
-        ensures { MatchOption result (IsNoWord name.now) (λ word. name.now ≡ name_of word) }
+    pub fn named(name: &str) -> Option<SubcommandWord>
+        ensures { MatchOption result (IsNoWord name.now) (λ word. name.now ≡ name_of_word word) }
     {
         match name {
-            "asm" => Some(Word::Asm),
-            "dis" => Some(Word::Dis),
-            "verify" => Some(Word::Verify),
-            "judge" => Some(Word::Judge),
-            "policy" => Some(Word::Policy),
-            "serve" => Some(Word::Serve),
-            "sim" => Some(Word::Sim),
-            "live" => Some(Word::Live),
-            "explain" => Some(Word::Explain),
-            "why" => Some(Word::Why),
-            "weigh" => Some(Word::Weigh),
-            "node" => Some(Word::Node),
-            "packet" => Some(Word::Packet),
-            "show" => Some(Word::Show),
-            "decide" => Some(Word::Decide),
-            "trace" => Some(Word::Trace),
-            "compare" => Some(Word::Compare),
-            "map" => Some(Word::Map),
-            "rehearse" => Some(Word::Rehearse),
-            "suite" => Some(Word::Suite),
+            "asm" => Some(SubcommandWord::Asm),
+            "dis" => Some(SubcommandWord::Dis),
+            "verify" => Some(SubcommandWord::Verify),
+            "judge" => Some(SubcommandWord::Judge),
+            "policy" => Some(SubcommandWord::Policy),
+            "serve" => Some(SubcommandWord::Serve),
+            "sim" => Some(SubcommandWord::Sim),
+            "live" => Some(SubcommandWord::Live),
+            "explain" => Some(SubcommandWord::Explain),
+            "why" => Some(SubcommandWord::Why),
+            "weigh" => Some(SubcommandWord::Weigh),
+            "node" => Some(SubcommandWord::Node),
+            "packet" => Some(SubcommandWord::Packet),
+            "show" => Some(SubcommandWord::Show),
+            "decide" => Some(SubcommandWord::Decide),
+            "trace" => Some(SubcommandWord::Trace),
+            "compare" => Some(SubcommandWord::Compare),
+            "map" => Some(SubcommandWord::Map),
+            "rehearse" => Some(SubcommandWord::Rehearse),
+            "suite" => Some(SubcommandWord::Suite),
             _ => None,
         }
     }

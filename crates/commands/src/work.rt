@@ -14,5 +14,5 @@ pub enum Work {
     /// A talk on a node: [`live`](crate::live) holds it in lines, and [`live_frames`](crate::live_frames) in frames.
     Live(LiveWords),
     /// A text, which is to be printed: that of `help` or `--help`, or the version.
-    Told(String),
+    Printed(String),
 }

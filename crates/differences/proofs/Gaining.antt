@@ -10,7 +10,7 @@ use Rattle.policy_table.specs.declared.rules.Quota.{Quota}
 use Rattle.policy_table.specs.declared.rules.Rule.{Rule}
 use Rattle.charts.specs.Alike.{AreLimited, HasLimit}
 use Rattle.charts.specs.Tickets.{is_of}
-use Rattle.differences.specs.Gains.{Gains, IsSign, code_from, draws_from, draws_of, gains_behind, goes_on, is_met, least_from, least_of, least_word, may_meet, may_pass, passes, sign_with, ticket_of, with_draw, with_least}
+use Rattle.differences.specs.Gains.{Gains, IsSign, code_from, draws_from, draws_of, gains_after, can_be_asked, is_met, least_word_from, least_words_of, least_word, may_meet, may_pass, passes, sign_with, ticket_of, with_draw, with_least}
 
 -- ---- Booleans and numbers
 
@@ -61,7 +61,7 @@ draws_more draws [] rule map cell = refl
 draws_more draws (r ∷ rs) rule map cell = draws_more (with_draw r.quota map cell draws) rs rule map cell
 
 least_more : (draws least : ℕ) (rules : List Rule) (rule : Rule) (map cell : ℕ)
-    → least_from draws least (rules ++ rule ∷ []) map cell ≡ with_least rule.quota map cell (draws_from draws rules map cell) (least_from draws least rules map cell)
+    → least_word_from draws least (rules ++ rule ∷ []) map cell ≡ with_least rule.quota map cell (draws_from draws rules map cell) (least_word_from draws least rules map cell)
 least_more draws least [] rule map cell = refl
 least_more draws least (r ∷ rs) rule map cell = least_more (with_draw r.quota map cell draws) (with_least r.quota map cell draws least) rs rule map cell
 
@@ -70,7 +70,7 @@ abbrev IsPast : (cells : ℕ → ℕ → ℕ) → List Rule → Type 0
 IsPast cells rules = (map cell : ℕ) → least_word rules map cell ≤ cells map cell
 
 -- so it is with one rule more that does not match
-past_more : (cells : ℕ → ℕ → ℕ) (rules : List Rule) (rule : Rule) → goes_on rule.quota ≡ true → is_met cells rules rule.quota ≡ false → IsPast cells rules → IsPast cells (rules ++ rule ∷ [])
+past_more : (cells : ℕ → ℕ → ℕ) (rules : List Rule) (rule : Rule) → can_be_asked rule.quota ≡ true → is_met cells rules rule.quota ≡ false → IsPast cells rules → IsPast cells (rules ++ rule ∷ [])
 past_more cells rules rule more missed past map cell =
     subst (λ (n : ℕ). n ≤ cells map cell) (sym (least_more 0 0 rules rule map cell)) (by_quota rule.quota more missed)
   where
@@ -85,7 +85,7 @@ past_more cells rules rule more missed past map cell =
         omega (arith, there, low)
     by_cell q false e high = past map cell
 
-    by_quota : (quota : Option Quota) → goes_on quota ≡ true → is_met cells rules quota ≡ false → with_least quota map cell (draws_of rules map cell) (least_word rules map cell) ≤ cells map cell
+    by_quota : (quota : Option Quota) → can_be_asked quota ≡ true → is_met cells rules quota ≡ false → with_least quota map cell (draws_of rules map cell) (least_word rules map cell) ≤ cells map cell
     by_quota None g n = absurd (cc)
     by_quota (Some q) g n = by_cell q (is_of q map cell) refl (is_not_below (ticket_of cells rules q) q.limit n)
 
@@ -109,7 +109,7 @@ is_own q = joined (q.map == q.map) (q.cell == q.cell) (itself q.map) (itself q.c
     itself a = grind (arith, nat_tests)
 
 -- a rule does not match with words with which none matches up to it
-not_met : (cells : ℕ → ℕ → ℕ) (rules : List Rule) (rule : Rule) → goes_on rule.quota ≡ true → IsPast cells (rules ++ rule ∷ []) → is_met cells rules rule.quota ≡ false
+not_met : (cells : ℕ → ℕ → ℕ) (rules : List Rule) (rule : Rule) → can_be_asked rule.quota ≡ true → IsPast cells (rules ++ rule ∷ []) → is_met cells rules rule.quota ≡ false
 not_met cells rules rule more past = by_quota rule.quota more (λ map cell. subst (λ (n : ℕ). n ≤ cells map cell) (least_more 0 0 rules rule map cell) (past map cell))
   where
     not_below : (a b : ℕ) → b ≤ a → nat_lt a b ≡ false
@@ -120,7 +120,7 @@ not_met cells rules rule more past = by_quota rule.quota more (λ map cell. subs
     by_cell q true e high = omega (arith, high)
     by_cell q false e high = absurd (cc)
 
-    by_quota : (quota : Option Quota) → goes_on quota ≡ true → ((map cell : ℕ) → with_least quota map cell (draws_of rules map cell) (least_word rules map cell) ≤ cells map cell) → is_met cells rules quota ≡ false
+    by_quota : (quota : Option Quota) → can_be_asked quota ≡ true → ((map cell : ℕ) → with_least quota map cell (draws_of rules map cell) (least_word rules map cell) ≤ cells map cell) → is_met cells rules quota ≡ false
     by_quota None g past = absurd (cc)
     by_quota (Some q) g past = not_below (ticket_of cells rules q) q.limit (by_cell q (is_of q q.map q.cell) (is_own q) (past q.map q.cell))
 
@@ -143,7 +143,7 @@ first_bound (Some q) map cell draws least limited low = by_cell (is_of q map cel
     by_cell true = omega (arith, low, limited.2)
     by_cell false = low
 
-least_bound : (draws least : ℕ) (rules : List Rule) (map cell : ℕ) → All HasLimit rules → least ≤ 2147483647 → least_from draws least rules map cell ≤ 2147483647
+least_bound : (draws least : ℕ) (rules : List Rule) (map cell : ℕ) → All HasLimit rules → least ≤ 2147483647 → least_word_from draws least rules map cell ≤ 2147483647
 least_bound draws least [] map cell limits low = low
 least_bound draws least (rule ∷ rules) map cell limits low =
     least_bound (with_draw rule.quota map cell draws) (with_least rule.quota map cell draws least) rules map cell (All-tail HasLimit rule rules limits)
@@ -162,7 +162,7 @@ by_first : (cells : ℕ → ℕ → ℕ) (passed : List Rule) (rule : Rule) (rul
 by_first cells passed rule rules t e = ap (λ (b : Bool). if b then verdict_number rule.verdict else code_from cells (passed ++ rule ∷ []) rules) e
 
 -- a rule that matches may be the last that is asked
-ends_there : (cells : ℕ → ℕ → ℕ) (passed : List Rule) (quota : Option Quota) → is_met cells passed quota ≡ false → goes_on quota ≡ true
+ends_there : (cells : ℕ → ℕ → ℕ) (passed : List Rule) (quota : Option Quota) → is_met cells passed quota ≡ false → can_be_asked quota ≡ true
 ends_there cells passed None e = absurd (cc)
 ends_there cells passed (Some q) e = refl
 
@@ -180,30 +180,30 @@ pub record Passes (olds : List Rule) (stop : Option Quota) (news new : List Rule
 -- the first of new rules passes, or what comes after it
 passes_by : (olds : List Rule) (stop : Option Quota) (news : List Rule) (rule : Rule) (rules : List Rule) → All HasLimit olds → All HasLimit news
     → (may_pass olds stop (news ++ rule ∷ []) rules ≡ true → Passes olds stop (news ++ rule ∷ []) rules)
-    → ((passes (verdict_number rule.verdict) && (may_meet olds news stop && may_meet news olds rule.quota)) ≡ true) ⊎ ((goes_on rule.quota && may_pass olds stop (news ++ rule ∷ []) rules) ≡ true)
+    → ((passes (verdict_number rule.verdict) && (may_meet olds news stop && may_meet news olds rule.quota)) ≡ true) ⊎ ((can_be_asked rule.quota && may_pass olds stop (news ++ rule ∷ []) rules) ≡ true)
     → Passes olds stop news (rule ∷ rules)
 passes_by olds stop news rule rules old_limits limits later (inl h) =
     let a = and_parts (passes (verdict_number rule.verdict)) (may_meet olds news stop && may_meet news olds rule.quota) h in
     let b = and_parts (may_meet olds news stop) (may_meet news olds rule.quota) a.1 in
     record {
-      cells = least_of olds news;
+      cells = least_words_of olds news;
       low = λ map cell. both_low (least_word olds map cell) (least_word news map cell) (least_bound 0 0 olds map cell old_limits (omega arith)) (least_bound 0 0 news map cell limits (omega arith));
       past = λ map cell. omega arith;
       new_past = λ map cell. omega arith;
       met = b.0;
-      passed = subst (λ (code : ℕ). passes code ≡ true) (sym (by_first (least_of olds news) news rule rules true (swapped rule.quota b.1))) a.0;
+      passed = subst (λ (code : ℕ). passes code ≡ true) (sym (by_first (least_words_of olds news) news rule rules true (swapped rule.quota b.1))) a.0;
     }
   where
     both_low : (a b : ℕ) → a ≤ 2147483647 → b ≤ 2147483647 → max a b ≤ 2147483647
     both_low a b h k = omega (arith, h, k)
 
-    swapped : (quota : Option Quota) → may_meet news olds quota ≡ true → is_met (least_of olds news) news quota ≡ true
+    swapped : (quota : Option Quota) → may_meet news olds quota ≡ true → is_met (least_words_of olds news) news quota ≡ true
     swapped None m = refl
     swapped (Some q) m =
-        let less : max (least_word news q.map q.cell) (least_word olds q.map q.cell) + draws_of news q.map q.cell < q.limit = is_below (ticket_of (least_of news olds) news q) q.limit m in
+        let less : max (least_word news q.map q.cell) (least_word olds q.map q.cell) + draws_of news q.map q.cell < q.limit = is_below (ticket_of (least_words_of news olds) news q) q.limit m in
         below (max (least_word olds q.map q.cell) (least_word news q.map q.cell) + draws_of news q.map q.cell) q.limit (omega (arith, less))
 passes_by olds stop news rule rules old_limits limits later (inr h) =
-    let a = and_parts (goes_on rule.quota) (may_pass olds stop (news ++ rule ∷ []) rules) h in
+    let a = and_parts (can_be_asked rule.quota) (may_pass olds stop (news ++ rule ∷ []) rules) h in
     let p = later a.1 in
     record {
       cells = p.cells;
@@ -219,7 +219,7 @@ may_pass_sound olds stop news [] old_limits limits new_limits e = absurd (cc)
 may_pass_sound olds stop news (rule ∷ rules) old_limits limits new_limits e =
     passes_by olds stop news rule rules old_limits limits
     (λ h. may_pass_sound olds stop (news ++ rule ∷ []) rules old_limits (limits_more news rule limits (All-head HasLimit rule rules new_limits)) (All-tail HasLimit rule rules new_limits) h)
-    (or_either (passes (verdict_number rule.verdict) && (may_meet olds news stop && may_meet news olds rule.quota)) (goes_on rule.quota && may_pass olds stop (news ++ rule ∷ []) rules) e)
+    (or_either (passes (verdict_number rule.verdict) && (may_meet olds news stop && may_meet news olds rule.quota)) (can_be_asked rule.quota && may_pass olds stop (news ++ rule ∷ []) rules) e)
 
 pub record Differs (olds old new : List Rule) : Type 0 where
   pub cells : ℕ → ℕ → ℕ
@@ -230,8 +230,8 @@ pub record Differs (olds old new : List Rule) : Type 0 where
 
 -- the first of old rules stops, or what comes after it
 stops_by : (olds : List Rule) (rule : Rule) (rules new : List Rule) → All HasLimit olds → All HasLimit new
-    → (gains_behind (olds ++ rule ∷ []) rules new ≡ true → Differs (olds ++ rule ∷ []) rules new)
-    → ((not (passes (verdict_number rule.verdict)) && may_pass olds rule.quota [] new) ≡ true) ⊎ ((goes_on rule.quota && gains_behind (olds ++ rule ∷ []) rules new) ≡ true)
+    → (gains_after (olds ++ rule ∷ []) rules new ≡ true → Differs (olds ++ rule ∷ []) rules new)
+    → ((not (passes (verdict_number rule.verdict)) && may_pass olds rule.quota [] new) ≡ true) ⊎ ((can_be_asked rule.quota && gains_after (olds ++ rule ∷ []) rules new) ≡ true)
     → Differs olds (rule ∷ rules) new
 stops_by olds rule rules new limits new_limits later (inl h) =
     let a = and_parts (not (passes (verdict_number rule.verdict))) (may_pass olds rule.quota [] new) h in
@@ -244,7 +244,7 @@ stops_by olds rule rules new limits new_limits later (inl h) =
       passed = p.passed;
     }
 stops_by olds rule rules new limits new_limits later (inr h) =
-    let a = and_parts (goes_on rule.quota) (gains_behind (olds ++ rule ∷ []) rules new) h in
+    let a = and_parts (can_be_asked rule.quota) (gains_after (olds ++ rule ∷ []) rules new) h in
     let d = later a.1 in
     record {
       cells = d.cells;
@@ -254,14 +254,14 @@ stops_by olds rule rules new limits new_limits later (inr h) =
       passed = d.passed;
     }
 
-gains_sound : (olds old new : List Rule) → All HasLimit olds → All HasLimit old → All HasLimit new → gains_behind olds old new ≡ true → Differs olds old new
+gains_sound : (olds old new : List Rule) → All HasLimit olds → All HasLimit old → All HasLimit new → gains_after olds old new ≡ true → Differs olds old new
 gains_sound olds [] new limits old_limits new_limits e =
     let p = may_pass_sound olds None [] new limits (All-nil HasLimit) new_limits e in
     record { cells = p.cells; low = p.low; past = p.past; stopped = refl; passed = p.passed }
 gains_sound olds (rule ∷ rules) new limits old_limits new_limits e =
     stops_by olds rule rules new limits new_limits
     (λ h. gains_sound (olds ++ rule ∷ []) rules new (limits_more olds rule limits (All-head HasLimit rule rules old_limits)) (All-tail HasLimit rule rules old_limits) new_limits h)
-    (or_either (not (passes (verdict_number rule.verdict)) && may_pass olds rule.quota [] new) (goes_on rule.quota && gains_behind (olds ++ rule ∷ []) rules new) e)
+    (or_either (not (passes (verdict_number rule.verdict)) && may_pass olds rule.quota [] new) (can_be_asked rule.quota && gains_after (olds ++ rule ∷ []) rules new) e)
 
 -- ---- complete
 
@@ -273,13 +273,13 @@ passes_there : (olds : List Rule) (stop : Option Quota) (news : List Rule) (rule
     → (IsPast cells (news ++ rule ∷ []) → passes (code_from cells (news ++ rule ∷ []) rules) ≡ true → may_pass olds stop (news ++ rule ∷ []) rules ≡ true)
     → (t : Bool) → is_met cells news rule.quota ≡ t → passes (if t then verdict_number rule.verdict else code_from cells (news ++ rule ∷ []) rules) ≡ true → may_pass olds stop news (rule ∷ rules) ≡ true
 passes_there olds stop news rule rules cells past met new_past later true f h =
-    or_first (passes (verdict_number rule.verdict) && (may_meet olds news stop && may_meet news olds rule.quota)) (goes_on rule.quota && may_pass olds stop (news ++ rule ∷ []) rules)
+    or_first (passes (verdict_number rule.verdict) && (may_meet olds news stop && may_meet news olds rule.quota)) (can_be_asked rule.quota && may_pass olds stop (news ++ rule ∷ []) rules)
     (joined (passes (verdict_number rule.verdict)) (may_meet olds news stop && may_meet news olds rule.quota) h
     (joined (may_meet olds news stop) (may_meet news olds rule.quota) (least_meets cells olds news stop past new_past met) (least_meets cells news olds rule.quota new_past past f)))
 passes_there olds stop news rule rules cells past met new_past later false f h =
     let more = ends_there cells news rule.quota f in
-    or_other (passes (verdict_number rule.verdict) && (may_meet olds news stop && may_meet news olds rule.quota)) (goes_on rule.quota && may_pass olds stop (news ++ rule ∷ []) rules)
-    (joined (goes_on rule.quota) (may_pass olds stop (news ++ rule ∷ []) rules) more (later (past_more cells news rule more f new_past) h))
+    or_other (passes (verdict_number rule.verdict) && (may_meet olds news stop && may_meet news olds rule.quota)) (can_be_asked rule.quota && may_pass olds stop (news ++ rule ∷ []) rules)
+    (joined (can_be_asked rule.quota) (may_pass olds stop (news ++ rule ∷ []) rules) more (later (past_more cells news rule more f new_past) h))
 
 may_pass_complete : (olds : List Rule) (stop : Option Quota) (news new : List Rule) (cells : ℕ → ℕ → ℕ) → IsPast cells olds → is_met cells olds stop ≡ true → IsPast cells news
     → passes (code_from cells news new) ≡ true → may_pass olds stop news new ≡ true
@@ -289,25 +289,25 @@ may_pass_complete olds stop news (rule ∷ rules) cells past met new_past e =
 
 -- the first of old rules is met, or not
 stops_there : (olds : List Rule) (rule : Rule) (rules new : List Rule) (cells : ℕ → ℕ → ℕ) → IsPast cells olds → passes (code_from cells [] new) ≡ true
-    → (IsPast cells (olds ++ rule ∷ []) → passes (code_from cells (olds ++ rule ∷ []) rules) ≡ false → gains_behind (olds ++ rule ∷ []) rules new ≡ true)
-    → (t : Bool) → is_met cells olds rule.quota ≡ t → passes (if t then verdict_number rule.verdict else code_from cells (olds ++ rule ∷ []) rules) ≡ false → gains_behind olds (rule ∷ rules) new ≡ true
+    → (IsPast cells (olds ++ rule ∷ []) → passes (code_from cells (olds ++ rule ∷ []) rules) ≡ false → gains_after (olds ++ rule ∷ []) rules new ≡ true)
+    → (t : Bool) → is_met cells olds rule.quota ≡ t → passes (if t then verdict_number rule.verdict else code_from cells (olds ++ rule ∷ []) rules) ≡ false → gains_after olds (rule ∷ rules) new ≡ true
 stops_there olds rule rules new cells past p later true f h =
-    or_first (not (passes (verdict_number rule.verdict)) && may_pass olds rule.quota [] new) (goes_on rule.quota && gains_behind (olds ++ rule ∷ []) rules new)
+    or_first (not (passes (verdict_number rule.verdict)) && may_pass olds rule.quota [] new) (can_be_asked rule.quota && gains_after (olds ++ rule ∷ []) rules new)
     (joined (not (passes (verdict_number rule.verdict))) (may_pass olds rule.quota [] new) (of_not (passes (verdict_number rule.verdict)) h)
     (may_pass_complete olds rule.quota [] new cells past f (no_words cells) p))
 stops_there olds rule rules new cells past p later false f h =
     let more = ends_there cells olds rule.quota f in
-    or_other (not (passes (verdict_number rule.verdict)) && may_pass olds rule.quota [] new) (goes_on rule.quota && gains_behind (olds ++ rule ∷ []) rules new)
-    (joined (goes_on rule.quota) (gains_behind (olds ++ rule ∷ []) rules new) more (later (past_more cells olds rule more f past) h))
+    or_other (not (passes (verdict_number rule.verdict)) && may_pass olds rule.quota [] new) (can_be_asked rule.quota && gains_after (olds ++ rule ∷ []) rules new)
+    (joined (can_be_asked rule.quota) (gains_after (olds ++ rule ∷ []) rules new) more (later (past_more cells olds rule more f past) h))
 
-gains_complete : (olds old new : List Rule) (cells : ℕ → ℕ → ℕ) → IsPast cells olds → passes (code_from cells olds old) ≡ false → passes (code_from cells [] new) ≡ true → gains_behind olds old new ≡ true
+gains_complete : (olds old new : List Rule) (cells : ℕ → ℕ → ℕ) → IsPast cells olds → passes (code_from cells olds old) ≡ false → passes (code_from cells [] new) ≡ true → gains_after olds old new ≡ true
 gains_complete olds [] new cells past s p = may_pass_complete olds None [] new cells past refl (no_words cells) p
 gains_complete olds (rule ∷ rules) new cells past s p =
     stops_there olds rule rules new cells past p (λ known h. gains_complete (olds ++ rule ∷ []) rules new cells known h p) (is_met cells olds rule.quota) refl s
 
 -- ---- exact
 
-is_gained : (old new : List Rule) (t : Bool) → AreLimited old → AreLimited new → gains_behind [] old new ≡ t → MatchBool t (Gains old new) (¬ (Gains old new))
+is_gained : (old new : List Rule) (t : Bool) → AreLimited old → AreLimited new → gains_after [] old new ≡ t → MatchBool t (Gains old new) (¬ (Gains old new))
 is_gained old new true old_limited new_limited e =
     let d = gains_sound [] old new (All-nil HasLimit) old_limited.limits new_limited.limits e in
     record {
@@ -317,9 +317,9 @@ is_gained old new true old_limited new_limited e =
       passed = d.passed;
     }
 is_gained old new false old_limited new_limited e = λ h.
-    true_not_false (gains_behind [] old new) (gains_complete [] old new h.cells (no_words h.cells) h.stopped h.passed) e
+    true_not_false (gains_after [] old new) (gains_complete [] old new h.cells (no_words h.cells) h.stopped h.passed) e
 
-pub sign_is : (old new : List Rule) (more fewer : Bool) → AreLimited old → AreLimited new → gains_behind [] old new ≡ more → gains_behind [] new old ≡ fewer → IsSign (sign_with more fewer) old new
+pub sign_is : (old new : List Rule) (more fewer : Bool) → AreLimited old → AreLimited new → gains_after [] old new ≡ more → gains_after [] new old ≡ fewer → IsSign (sign_with more fewer) old new
 sign_is old new true true old_limited new_limited e f = (is_gained old new true old_limited new_limited e, is_gained new old true new_limited old_limited f)
 sign_is old new true false old_limited new_limited e f = (is_gained old new true old_limited new_limited e, is_gained new old false new_limited old_limited f)
 sign_is old new false true old_limited new_limited e f = (is_gained old new false old_limited new_limited e, is_gained new old true new_limited old_limited f)

@@ -6,7 +6,7 @@ use Rattle.policy_table.specs.declared.rules.Quota.{Quota}
 use Rattle.policy_table.specs.declared.rules.Rule.{Rule}
 use Rattle.charts.specs.Alike.{HasLimit}
 use Rattle.charts.specs.Tickets.{is_of}
-use Rattle.differences.specs.declared.courses.Step.{Step}
+use Rattle.differences.specs.declared.decision_paths.AskedRule.{AskedRule}
 use Rattle.differences.specs.declared.signs.Sign.{Sign}
 use Rattle.differences.specs.declared.signs.Sign.TheVariants.{Both, Fewer, More, Other}
 
@@ -63,7 +63,7 @@ IsSign Other old new = ¬ (Gains old new) × ¬ (Gains new old)
 -- ---- how it is found: an old rule that stops, a new one that passes, and the least words that lead to both
 
 -- the limit of a step's rule is such as a table has
-abbrev pub HasStepLimit : Step → Type 0
+abbrev pub HasStepLimit : AskedRule → Type 0
 HasStepLimit step = HasLimit step.rule
 
 -- the least word of a cell with which a rule does not match either, after this many draws of the cell
@@ -72,41 +72,41 @@ with_least None map cell draws least = least
 with_least (Some quota) map cell draws least = if is_of quota map cell then max least (quota.limit - draws) else least
 
 -- the least word of a cell with which none of the rules matches that draw of it, after others
-abbrev pub least_from : (draws least : ℕ) → List Rule → (map cell : ℕ) → ℕ
-least_from draws least [] map cell = least
-least_from draws least (rule ∷ rules) map cell =
-    least_from (with_draw rule.quota map cell draws) (with_least rule.quota map cell draws least) rules map cell
+abbrev pub least_word_from : (draws least : ℕ) → List Rule → (map cell : ℕ) → ℕ
+least_word_from draws least [] map cell = least
+least_word_from draws least (rule ∷ rules) map cell =
+    least_word_from (with_draw rule.quota map cell draws) (with_least rule.quota map cell draws least) rules map cell
 
 -- the least word with which none of them matches
 abbrev pub least_word : List Rule → (map cell : ℕ) → ℕ
-least_word rules map cell = least_from 0 0 rules map cell
+least_word rules map cell = least_word_from 0 0 rules map cell
 
 -- the least words with which none of two courses' rules match
-abbrev pub least_of : (own others : List Rule) → (map cell : ℕ) → ℕ
-least_of own others map cell = max (least_word own map cell) (least_word others map cell)
+abbrev pub least_words_of : (own others : List Rule) → (map cell : ℕ) → ℕ
+least_words_of own others map cell = max (least_word own map cell) (least_word others map cell)
 
 -- whether a rule after others can match, if those of another course do not match
 abbrev pub may_meet : (own others : List Rule) → Option Quota → Bool
-may_meet own others quota = is_met (least_of own others) own quota
+may_meet own others quota = is_met (least_words_of own others) own quota
 
 -- whether what is after a rule can be asked
-abbrev pub goes_on : Option Quota → Bool
-goes_on None = false
-goes_on (Some quota) = true
+abbrev pub can_be_asked : Option Quota → Bool
+can_be_asked None = false
+can_be_asked (Some quota) = true
 
 -- whether a rule of a new course, after others, can pass, if a rule of the old course matches after others
 abbrev pub may_pass : (olds : List Rule) → Option Quota → (news new : List Rule) → Bool
 may_pass olds stop news [] = false
 may_pass olds stop news (rule ∷ rules) =
     (passes (verdict_number rule.verdict) && (may_meet olds news stop && may_meet news olds rule.quota))
-    || (goes_on rule.quota && may_pass olds stop (news ++ rule ∷ []) rules)
+    || (can_be_asked rule.quota && may_pass olds stop (news ++ rule ∷ []) rules)
 
 -- whether some rule of an old course, after others, can stop if one of a new course can pass
-abbrev pub gains_behind : (olds old new : List Rule) → Bool
-gains_behind olds [] new = may_pass olds None [] new
-gains_behind olds (rule ∷ rules) new =
+abbrev pub gains_after : (olds old new : List Rule) → Bool
+gains_after olds [] new = may_pass olds None [] new
+gains_after olds (rule ∷ rules) new =
     (not (passes (verdict_number rule.verdict)) && may_pass olds rule.quota [] new)
-    || (goes_on rule.quota && gains_behind (olds ++ rule ∷ []) rules new)
+    || (can_be_asked rule.quota && gains_after (olds ++ rule ∷ []) rules new)
 
 -- the sign if something is gained under the new rules, or not, and something under the old ones, or not
 abbrev pub sign_with : (more fewer : Bool) → Sign

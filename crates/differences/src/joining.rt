@@ -4,24 +4,24 @@ ghost use Rattle.std.specs.Prelude.{◌≤◌, IfOk, MatchBool, length};
 ghost use Rattle.charts.specs.Lines.{IsComparison};
 ghost use Rattle.differences.specs.Joined.{IsShorter, SayTheSame};
 
-use crate::courses::{Step, course};
-use charts::{Line, is_in_pieces};
+use crate::decision_paths::{AskedRule, decision_path};
+use charts::{ChartLine, is_in_pieces};
 use policy_table::Rule;
-use regions::{Kinds, Region, Stretch};
+use regions::{Kinds, PointRegion, Stretch};
 use std::alloc::{AllocError, Global};
 
 /// A line, and the rules that each table asks at its points.
 #[derive(Debug, Drop)]
 struct Asked {
-    line: Line,
-    old: Vec<Step>,
-    new: Vec<Step>,
+    line: ChartLine,
+    old: Vec<AskedRule>,
+    new: Vec<AskedRule>,
     /// Whether a line has the rest of its sets, so that no line of them may go.
     has_rest: bool,
 }
 
 /// Whether two courses have the same rules.
-fn are_same(one: &[Step], other: &[Step]) -> bool {
+fn are_same(one: &[AskedRule], other: &[AskedRule]) -> bool {
     if one.len() != other.len() {
         return false;
     }
@@ -43,7 +43,7 @@ fn either(one: Kinds, other: Kinds) -> Kinds {
 }
 
 /// In how many of the sets of kinds, keys, initiators and extended addresses two regions differ.
-fn sets_apart(one: &Region, other: &Region) -> u8 {
+fn sets_apart(one: &PointRegion, other: &PointRegion) -> u8 {
     u8::from(one.kinds != other.kinds)
         + u8::from(one.keys != other.keys)
         + u8::from(one.initiators != other.initiators)
@@ -51,11 +51,11 @@ fn sets_apart(one: &Region, other: &Region) -> u8 {
 }
 
 /// The region of the points of both, if they differ in one of these sets and in nothing else.
-fn joined_region(one: &Region, other: &Region) -> Option<Region> {
+fn joined_region(one: &PointRegion, other: &PointRegion) -> Option<PointRegion> {
     if one.first != other.first || one.last != other.last || sets_apart(one, other) != 1 {
         return None;
     }
-    Some(Region {
+    Some(PointRegion {
         kinds: either(one.kinds, other.kinds),
         keys: one.keys.with(&other.keys),
         initiators: one.initiators.with(&other.initiators),
@@ -66,7 +66,7 @@ fn joined_region(one: &Region, other: &Region) -> Option<Region> {
 }
 
 /// The region of the points of both lines, if one line can say what they say.
-fn joined_of(one: &Asked, other: &Asked) -> Option<Region> {
+fn joined_of(one: &Asked, other: &Asked) -> Option<PointRegion> {
     if one.has_rest || other.has_rest {
         return None;
     }
@@ -128,7 +128,7 @@ fn add(lines: &mut Vec<Asked>, places: &mut Vec<Place>, line: Asked) -> Result<(
 }
 
 /// The regions of which some line has the rest of the addresses.
-fn rests_of(alloc: Global, lines: &[Line]) -> Result<Vec<Region>, AllocError> {
+fn rests_of(alloc: Global, lines: &[ChartLine]) -> Result<Vec<PointRegion>, AllocError> {
     let mut rests = Vec::new(alloc);
     for line in lines {
         if line.rest {
@@ -139,7 +139,7 @@ fn rests_of(alloc: Global, lines: &[Line]) -> Result<Vec<Region>, AllocError> {
 }
 
 /// Whether some line has the rest of the addresses of the sets of a line.
-fn has_rest(rests: &[Region], line: &Line) -> bool {
+fn has_rest(rests: &[PointRegion], line: &ChartLine) -> bool {
     rests.iter().any(|rest| sets_apart(rest, &line.region) == 0)
 }
 
@@ -148,16 +148,16 @@ fn all_joined(
     alloc: Global,
     old: &[Rule],
     new: &[Rule],
-    lines: &[Line],
-) -> Result<Vec<Line>, AllocError> {
+    lines: &[ChartLine],
+) -> Result<Vec<ChartLine>, AllocError> {
     let rests = rests_of(alloc, lines)?;
     let mut asked = Vec::new(alloc);
     let mut places = Vec::new(alloc);
     for line in lines {
         let own = Asked {
             line: *line,
-            old: course(alloc, old, &line.point)?,
-            new: course(alloc, new, &line.point)?,
+            old: decision_path(alloc, old, &line.point)?,
+            new: decision_path(alloc, new, &line.point)?,
             has_rest: has_rest(rests.as_slice(), line),
         };
         add(&mut asked, &mut places, own)?;
@@ -175,7 +175,7 @@ fn all_joined(
 const MOST_TESTED: usize = 4_000;
 
 /// Whether joined lines are fewer, not too many to be tested, and are a comparison of the tables.
-fn is_shorter(asked: &Region, old: &[Rule], new: &[Rule], lines: &[Line], made: &[Line]) -> bool
+fn is_shorter(asked: &PointRegion, old: &[Rule], new: &[Rule], lines: &[ChartLine], made: &[ChartLine]) -> bool
     ensures { MatchBool result
         (IsShorter asked.now old.now new.now lines.now made.now) (Unit {0}) }
 {
@@ -191,11 +191,11 @@ fn is_shorter(asked: &Region, old: &[Rule], new: &[Rule], lines: &[Line], made: 
 /// If memory is refused.
 pub fn joined(
     alloc: Global,
-    asked: &Region,
+    asked: &PointRegion,
     old: &[Rule],
     new: &[Rule],
-    lines: Vec<Line>,
-) -> Result<Vec<Line>, AllocError>
+    lines: Vec<ChartLine>,
+) -> Result<Vec<ChartLine>, AllocError>
     requires { IsComparison asked.now old.now new.now lines.items }
     // The joined lines are a comparison, too: no command is added or left out
     ensures comparison { IfOk result (λ made. IsComparison asked.now old.now new.now made.items) }

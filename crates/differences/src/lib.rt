@@ -4,13 +4,13 @@
 //! pass. [`repeats_of`] says how often a command must come until they give it different verdicts.
 #![tactic(auto)]
 
-mod courses;
+mod decision_paths;
 mod joining;
 mod laws;
 mod repeating;
 mod signs;
 
-pub use courses::{Step, course};
+pub use decision_paths::{AskedRule, decision_path};
 pub use joining::joined;
 pub use laws::steps;
 pub use repeating::{Repeats, repeats_of};

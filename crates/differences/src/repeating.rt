@@ -1,7 +1,7 @@
 //! How often a command must come until two courses give it different verdicts: the verdicts that equal commands get one
 //! after another.
 
-use crate::courses::Step;
+use crate::decision_paths::AskedRule;
 use policy_table::Quota;
 use rmap::Verdict;
 use std::alloc::{AllocError, Global};
@@ -54,7 +54,7 @@ fn until(before: &[Drawn], quota: &Quota, from: u128) -> u128 {
 }
 
 /// The verdicts of equal commands that are judged by a course from counters at 0.
-fn spans(alloc: Global, steps: &[Step]) -> Result<Vec<Span>, AllocError> {
+fn spans(alloc: Global, steps: &[AskedRule]) -> Result<Vec<Span>, AllocError> {
     let mut spans = Vec::new(alloc);
     let mut before = Vec::new(alloc);
     let mut from = 0;
@@ -122,13 +122,13 @@ fn found_in(found: Option<u128>, ends: &[Span], old: &[Span], new: &[Span]) -> O
 /// # Errors
 ///
 /// Only if memory is refused.
-pub fn repeats_of(alloc: Global, old: &[Step], new: &[Step]) -> Result<Repeats, AllocError> {
+pub fn repeats_of(alloc: Global, old: &[AskedRule], new: &[AskedRule]) -> Result<Repeats, AllocError> {
     let olds = spans(alloc, old)?;
     let news = spans(alloc, new)?;
     let (ones, others) = (olds.as_slice(), news.as_slice());
     let first = found_at(None, ones, others, 0);
-    let behind_old = found_in(first, ones, ones, others);
-    match found_in(behind_old, others, ones, others) {
+    let after_old = found_in(first, ones, ones, others);
+    match found_in(after_old, others, ones, others) {
         None => Ok(Repeats::Draws),
         Some(before) => Ok(Repeats::Times(before.saturating_add(1))),
     }

@@ -2,10 +2,10 @@
 
 ghost use Rattle.std.specs.Prelude.{◌≡◌, ◌≤◌, ◌<◌, ◌+◌, ◌^◌, [], All, length};
 ghost use Rattle.rmap.specs.Verdict.{verdict_number};
-ghost use Rattle.differences.specs.Gains.{HasStepLimit, IsSign, draws_of, gains_behind, least_word, may_meet, may_pass, passes, sign_with, with_draw, with_least};
+ghost use Rattle.differences.specs.Gains.{HasStepLimit, IsSign, draws_of, gains_after, least_word, may_meet, may_pass, passes, sign_with, with_draw, with_least};
 ghost use Rattle.differences.specs.Steps.{rules_of};
 
-use crate::courses::Step;
+use crate::decision_paths::AskedRule;
 use charts::is_of_one_cell;
 use policy_table::Quota;
 use rmap::Verdict;
@@ -63,7 +63,7 @@ fn with_rule(past: Past, drawn: Option<Quota>, quota: &Quota) -> Past
 }
 
 /// How the rules of a course that do not match use the cell of a quota.
-fn past_of(steps: &[Step], quota: &Quota) -> Past
+fn past_of(steps: &[AskedRule], quota: &Quota) -> Past
     ensures draws { result.draws ≡ draws_of (rules_of steps.now) quota.now.map quota.now.cell }
     ensures least { result.least ≡ least_word (rules_of steps.now) quota.now.map quota.now.cell }
     ensures few { result.draws ≤ length steps.now }
@@ -77,7 +77,7 @@ fn past_of(steps: &[Step], quota: &Quota) -> Past
 }
 
 /// Whether a rule with this quota can match after rules that do not, if those of another course do not match.
-fn may_meet(own: &[Step], others: &[Step], quota: Option<Quota>) -> bool
+fn may_meet(own: &[AskedRule], others: &[AskedRule], quota: Option<Quota>) -> bool
     ensures { result ≡ may_meet (rules_of own.now) (rules_of others.now) quota }
 {
     let Some(quota) = quota else {
@@ -89,7 +89,7 @@ fn may_meet(own: &[Step], others: &[Step], quota: Option<Quota>) -> bool
 }
 
 /// Whether some rule of a new course can pass, if a rule of the old course with this quota matches after others.
-fn may_pass(olds: &[Step], stop: Option<Quota>, new: &[Step]) -> bool
+fn may_pass(olds: &[AskedRule], stop: Option<Quota>, new: &[AskedRule]) -> bool
     ensures { result ≡ may_pass (rules_of olds.now) stop [] (rules_of new.now) }
 {
     for number in 0..new.len() {
@@ -108,8 +108,8 @@ fn may_pass(olds: &[Step], stop: Option<Quota>, new: &[Step]) -> bool
 }
 
 /// Whether some words of the cells let a command pass under the new course and not under the old one.
-fn gains(old: &[Step], new: &[Step]) -> bool
-    ensures { result ≡ gains_behind [] (rules_of old.now) (rules_of new.now) }
+fn gains(old: &[AskedRule], new: &[AskedRule]) -> bool
+    ensures { result ≡ gains_after [] (rules_of old.now) (rules_of new.now) }
 {
     for number in 0..old.len() {
         let rule = &old[number].rule;
@@ -134,7 +134,7 @@ fn sign_with(more: bool, fewer: bool) -> Sign
 }
 
 /// How a new course differs from an old one in the commands that pass, if the cells have the same words before both.
-pub fn sign_of(old: &[Step], new: &[Step]) -> Sign
+pub fn sign_of(old: &[AskedRule], new: &[AskedRule]) -> Sign
     requires old_limits { All HasStepLimit old.now }
     requires new_limits { All HasStepLimit new.now }
     ensures { IsSign result (rules_of old.now) (rules_of new.now) }

@@ -10,17 +10,17 @@ use Rattle.folders.specs.Folders.{FolderValue}
 use Rattle.doing.specs.Desks.{PageLink, page_talk, page_words}
 use Rattle.doing.specs.declared.desk.PageDesk.{PageDesk}
 use Rattle.doing.specs.declared.doing.Left.{Left}
-use Rattle.doing.specs.declared.slate.Slate.{Slate}
+use Rattle.doing.specs.declared.error_output.ErrorOutput.{ErrorOutput}
 
 -- there is no link
 abbrev pub no_link : LinkWords (PageLink Global)
 no_link = record {
-  came = λ before bytes after. ⊥;
+  received = λ before bytes after. ⊥;
   sent = λ before bytes after. ⊥;
-  told = λ before text after. ⊥;
+  reported = λ before text after. ⊥;
   unread = λ before after. ⊥;
   unsent = λ before bytes after. ⊥;
-  untold = λ before text after. ⊥;
+  unreported = λ before text after. ⊥;
   lost = λ link. false;
 }
 
@@ -32,7 +32,7 @@ pub record DoesWords (words : List Text) (before : FolderValue) (left : Left) : 
   pub end : End
   pub begun : start.folder ≡ before
   pub silent : start.out.items ≡ []
-  pub does : DoesGiven page_words (Bor Slate) page_talk false no_link words start end stop
+  pub does : DoesGiven page_words (Bor ErrorOutput) page_talk false no_link words start end stop
   pub status : left.done.status ≡ end_code end
   pub printed : left.done.out.items ≡ stop.out.items
   pub folder : left.folder ≡ stop.folder

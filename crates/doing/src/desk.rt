@@ -3,8 +3,8 @@
 ghost use Rattle.std.specs.Prelude.{◌≡◌, [], IfOk};
 ghost use Rattle.doing.specs.Desks.{input_of};
 
-use crate::slate::Slate;
-use commands::{Cause, Desk, Files, HostLink, HostTalk, Nobody};
+use crate::error_output::ErrorOutput;
+use commands::{FileCause, Desk, Files, HostLink, HostTalk, Nobody};
 use folders::Folder;
 use std::alloc::{AllocError, Global};
 use std::fmt::Display;
@@ -22,20 +22,20 @@ pub const STANDARD_INPUT: &str = "-";
 #[derive(Drop)]
 pub struct PageDesk<'a, 'b> {
     folder: Folder<'a>,
-    slate: &'b Slate,
+    error_output: &'b ErrorOutput,
     alloc: Global,
     out: Vec<u8>,
 }
 
 impl<'a, 'b> PageDesk<'a, 'b> {
     /// The desk over this folder, on which nothing was printed.
-    pub fn new(folder: Folder<'a>, slate: &'b Slate, alloc: Global) -> PageDesk<'a, 'b>
+    pub fn new(folder: Folder<'a>, error_output: &'b ErrorOutput, alloc: Global) -> PageDesk<'a, 'b>
         ensures folder { result.folder ≡ folder.entry }
         ensures silent { result.out.items ≡ [] }
     {
         PageDesk {
             folder,
-            slate,
+            error_output,
             alloc,
             out: Vec::new(alloc),
         }
@@ -68,7 +68,7 @@ impl<'a, 'b> Desk for PageDesk<'a, 'b> {
 
     type Link = HostLink<Cursor<Vec<u8>>, Vec<u8>, Vec<u8>>;
 
-    type Errors = &'b Slate;
+    type Errors = &'b ErrorOutput;
 
     type Server = Nobody;
 
@@ -79,17 +79,17 @@ impl<'a, 'b> Desk for PageDesk<'a, 'b> {
 
     ghost held = { λ _. [] };
 
-    fn read(&mut self, alloc: Global, name: &str, _most: u64) -> Result<Vec<u8>, Cause> {
+    fn read(&mut self, alloc: Global, name: &str, _most: u64) -> Result<Vec<u8>, FileCause> {
         match self.folder.read(alloc, name) {
             Ok(bytes) => Ok(bytes),
-            Err(_) => Err(Cause::System(io::Error::from_raw_os_error(NO_FILE))),
+            Err(_) => Err(FileCause::System(io::Error::from_raw_os_error(NO_FILE))),
         }
     }
 
-    fn write(&mut self, name: &str, bytes: &[u8]) -> Result<(), Cause> {
+    fn write(&mut self, name: &str, bytes: &[u8]) -> Result<(), FileCause> {
         match self.folder.write(name, bytes) {
             Ok(()) => Ok(()),
-            Err(_) => Err(Cause::Input),
+            Err(_) => Err(FileCause::Input),
         }
     }
 
@@ -125,17 +125,17 @@ impl<'a, 'b> Desk for PageDesk<'a, 'b> {
         Ok(())
     }
 
-    fn errors(&self) -> &'b Slate {
-        self.slate
+    fn errors(&self) -> &'b ErrorOutput {
+        self.error_output
     }
 
     fn server(&self) -> Nobody {
         Nobody
     }
 
-    fn tell<T: Display + Drop>(&self, told: Result<T, AllocError>) -> Result<(), AllocError> {
-        let text = told?;
-        self.slate.eprint(text).map_err(|_| AllocError)
+    fn tell<T: Display + Drop>(&self, reported: Result<T, AllocError>) -> Result<(), AllocError> {
+        let text = reported?;
+        self.error_output.eprint(text).map_err(|_| AllocError)
     }
 
     fn lose(&self, _written: &io::Result<()>) -> Result<(), AllocError> {

@@ -6,7 +6,7 @@ ghost use Rattle.commands.specs.Given.{words_given};
 ghost use Rattle.doing.specs.Doings.{DoesWords};
 
 use crate::desk::PageDesk;
-use crate::slate::Slate;
+use crate::error_output::ErrorOutput;
 use folders::Folder;
 use std::alloc::{AllocError, Global};
 
@@ -18,7 +18,7 @@ pub struct Done {
     /// What standard output has.
     pub out: Vec<u8>,
     /// What standard error has.
-    pub told: String,
+    pub reported: String,
 }
 
 /// The same, with the folder as it is after it.
@@ -44,12 +44,12 @@ pub fn do_words<'a>(
 ) -> Result<Left<'a>, AllocError>
     ensures { IfOk result (DoesWords (words_given (texts given.now)) folder.entry) }
 {
-    let slate = Slate::new(alloc);
-    let desk = PageDesk::new(folder, &slate, alloc);
+    let error_output = ErrorOutput::new(alloc);
+    let desk = PageDesk::new(folder, &error_output, alloc);
     let left = commands::do_words(alloc, desk, given, false)?;
     let status = left.end.code();
     let (folder, out) = left.desk.into_parts();
-    let told = slate.into_told();
-    let done = Done { status, out, told };
+    let reported = error_output.into_reported();
+    let done = Done { status, out, reported };
     Ok(Left { done, folder })
 }

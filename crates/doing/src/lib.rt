@@ -3,8 +3,8 @@
 
 mod desk;
 mod doing;
-mod slate;
+mod error_output;
 
 pub use desk::{PageDesk, STANDARD_INPUT};
 pub use doing::{Done, Left, do_words};
-pub use slate::Slate;
+pub use error_output::ErrorOutput;

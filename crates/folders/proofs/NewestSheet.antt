@@ -8,8 +8,8 @@ use Rattle.folders.specs.Folders.{FolderValue, Sets, content_of}
 
 -- names that differ are not taken for one
 apart : (name other : List ℕ) (is_same : Bool) → Decides is_same (name ≡ other) → other ≢ name → is_same ≡ false
-apart name other true tells differ = absurd (differ (sym (tells.0 refl)))
-apart name other false tells differ = refl
+apart name other true reports differ = absurd (differ (sym (reports.0 refl)))
+apart name other false reports differ = refl
 
 pub newest_sets : (before after : FolderValue) (name bytes : List ℕ) → after ≡ (name, bytes) ∷ before → Sets before name bytes after
 newest_sets before after name bytes is = subst (λ (sheets : FolderValue). Sets before name bytes sheets) (sym is) (record {

@@ -2,7 +2,7 @@
 use Rattle.std.specs.Prelude.{◌≡◌, ◌≢◌, ℕ, List, [], ◌∷◌, Option, Some, None, Bool, true, false, if◌then◌else◌, map}
 use Rattle.std.specs.Str.{bytes_eq}
 use Rattle.folders.specs.declared.folder.Sheet.{Sheet}
-use Rattle.folders.specs.Sheets.{pair_of}
+use Rattle.folders.specs.Sheets.{sheet_pair_of}
 
 -- the names and bytes that were written, the newest first
 abbrev pub FolderValue : Type 0
@@ -10,7 +10,7 @@ FolderValue = List (List ℕ × List ℕ)
 
 -- the names and bytes of the sheets
 abbrev pub sheets_value : List Sheet → FolderValue
-sheets_value sheets = map pair_of sheets
+sheets_value sheets = map sheet_pair_of sheets
 
 -- the bytes of the file of this name, or none if there is no such file
 abbrev pub content_of : FolderValue → List ℕ → Option (List ℕ)

@@ -43,9 +43,9 @@ impl<'a> Model for Folder<'a> {
 
     ghost Value = { List (List ℕ × List ℕ) };
 
-    ghost use Rattle.folders.specs.Sheets.{pair_of};
+    ghost use Rattle.folders.specs.Sheets.{sheet_pair_of};
 
-    ghost view = { λ a. map pair_of a.sheets.items };
+    ghost view = { λ a. map sheet_pair_of a.sheets.items };
 }
 
 /// The newest sheet of this name.

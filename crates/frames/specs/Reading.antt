@@ -6,8 +6,8 @@ use Rattle.frames.specs.Heads.{head_of}
 use Rattle.frames.specs.declared.flags.Flag.{Flag}
 use Rattle.frames.specs.declared.flags.Flag.TheVariants.{Last, Part, SendTime, GotTime, Other}
 use Rattle.frames.specs.declared.heads.TheConstants.{HEAD_LENGTH}
-use Rattle.frames.specs.declared.came.Came.{Came}
-use Rattle.frames.specs.declared.came.Came.TheVariants.{Whole, Piece, Time, Other as Unknown}
+use Rattle.frames.specs.declared.received.Received.{Received}
+use Rattle.frames.specs.declared.received.Received.TheVariants.{Whole, Piece, Time, Other as Unknown}
 
 -- What was read. It has the bytes of a head that is not whole yet, what the current frame is, and how many of its bytes
 -- are left. It also has what is held of a packet that has not ended.
@@ -71,12 +71,12 @@ abbrev pub is_between : Reading → Bool
 is_between s = s.left == 0 && length s.head == 0
 
 -- what a frame of this kind brings, with what is held then
-abbrev pub came_of : Flag → List ℕ → Came
-came_of (Last end) held = Whole (record { bytes = held; end = end })
-came_of Part held = Piece
-came_of SendTime held = Time
-came_of GotTime held = Time
-came_of (Other code) held = Unknown code
+abbrev pub received_of : Flag → List ℕ → Received
+received_of (Last end) held = Whole (record { bytes = held; end = end })
+received_of Part held = Piece
+received_of SendTime held = Time
+received_of GotTime held = Time
+received_of (Other code) held = Unknown code
 
 -- what is held after a frame of this kind
 abbrev pub rest_of : Flag → List ℕ → List ℕ
@@ -87,13 +87,13 @@ rest_of GotTime held = held
 rest_of (Other code) held = held
 
 -- after the end of a frame
-abbrev pub behind_end : Reading → Reading
-behind_end s = record { head = s.head; flag = s.flag; left = s.left; held = rest_of s.flag s.held }
+abbrev pub after_end : Reading → Reading
+after_end s = record { head = s.head; flag = s.flag; left = s.left; held = rest_of s.flag s.held }
 
 -- what comes with a byte, if it ends a frame
-abbrev pub comes : Reading → ℕ → Option Came
-comes s byte = if is_between (next s byte) then Some (came_of (next s byte).flag (next s byte).held) else None
+abbrev pub comes : Reading → ℕ → Option Received
+comes s byte = if is_between (next s byte) then Some (received_of (next s byte).flag (next s byte).held) else None
 
 -- what was read after a byte
-abbrev pub step : Reading → ℕ → Reading
-step s byte = if is_between (next s byte) then behind_end (next s byte) else next s byte
+abbrev pub reading_step : Reading → ℕ → Reading
+reading_step s byte = if is_between (next s byte) then after_end (next s byte) else next s byte

@@ -1,14 +1,14 @@
 -- Bytes that a reader takes at once.
 use Rattle.std.specs.Prelude.{◌≡◌, ◌≤◌, ◌⊎◌, ℕ, ◌-◌, List, [], ◌∷◌, length, take, true}
 use Rattle.frames.specs.Reading.{Reading, in_head, is_between}
-use Rattle.frames.specs.Streams.{held_behind}
+use Rattle.frames.specs.Streams.{held_after}
 use Rattle.frames.specs.declared.flags.Flag.{Flag}
 use Rattle.frames.specs.declared.flags.Flag.TheVariants.{Last, Part, SendTime, GotTime, Other}
 
 -- bytes of a body, no more than are left of it
 abbrev pub in_run : Reading → List ℕ → Reading
 in_run s bytes =
-    record { head = s.head; flag = s.flag; left = s.left - length bytes; held = held_behind s.flag s.held bytes }
+    record { head = s.head; flag = s.flag; left = s.left - length bytes; held = held_after s.flag s.held bytes }
 
 -- one byte of a head was taken, or bytes of a body, no more than are left of it
 abbrev pub IsRun : Reading → List ℕ → Reading → Type 0

@@ -2,7 +2,7 @@
 //! (SSDTP2).
 #![tactic(auto)]
 
-mod came;
+mod received;
 mod faults;
 mod flags;
 mod heads;
@@ -10,10 +10,10 @@ mod laws;
 mod reader;
 mod replies;
 
-pub use crate::came::Came;
+pub use crate::received::Received;
 pub use crate::faults::FrameFault;
 pub use crate::flags::Flag;
-pub use crate::heads::{HEAD_LENGTH, Head, take_head};
+pub use crate::heads::{HEAD_LENGTH, FrameHead, take_head};
 pub use crate::laws::frames_are_read;
 pub use crate::reader::FrameReader;
 pub use crate::replies::reply_head;

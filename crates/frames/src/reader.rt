@@ -1,15 +1,15 @@
 //! A reader of frames.
 
 ghost use Rattle.std.specs.Prelude.{◌≡◌, ◌≢◌, ◌<◌, ◌≤◌, [], length, min, take, IfErr, IfOk, OnErr, OnOk};
-ghost use Rattle.frames.specs.Streams.{after, came_in, keep_all, onto};
+ghost use Rattle.frames.specs.Streams.{reading_after, received_in, keep_all, onto};
 ghost use Rattle.frames.specs.Runs.{EndsPacket, EndsUnpacked, IsRun, in_run};
-ghost use Rattle.frames.specs.Reading.{behind_end, came_of, first_reading, in_head, is_between};
+ghost use Rattle.frames.specs.Reading.{after_end, received_of, first_reading, in_head, is_between};
 
-use crate::came::Came;
+use crate::received::Received;
 use crate::flags::Flag;
 use crate::heads::{HEAD_LENGTH, take_head};
 use arrayvec::ArrayVec;
-use spw::{Feed, behind_path};
+use spw::{Feed, without_path};
 use std::alloc::{AllocError, Global};
 use std::marker::Model;
 
@@ -42,7 +42,7 @@ fn keep_run(held: &mut Feed, bytes: &[u8])
     ensures { held.new ≡ keep_all held.old bytes.now }
 {
     if held.is_empty() {
-        held.fill(behind_path(bytes));
+        held.fill(without_path(bytes));
     } else {
         held.fill(bytes);
     }
@@ -114,17 +114,17 @@ impl FrameReader {
     }
 
     /// Ends a frame, and gives what it brings. After a packet nothing is held. If memory is refused, nothing changes.
-    fn end(&mut self) -> Result<Came, AllocError>
-        ensures ok { IfOk result (λ came. came ≡ came_of self.old.flag self.old.held) }
-        ensures behind { OnOk result (self.new ≡ behind_end self.old) }
+    fn end(&mut self) -> Result<Received, AllocError>
+        ensures ok { IfOk result (λ received. received ≡ received_of self.old.flag self.old.held) }
+        ensures following { OnOk result (self.new ≡ after_end self.old) }
         ensures kept { OnErr result (self.new ≡ self.old) }
         ensures packet { OnErr result (EndsPacket self.old.flag) }
     {
         match self.flag {
-            Flag::Last(end) => Ok(Came::Whole(self.held.close(end)?)),
-            Flag::Part => Ok(Came::Piece),
-            Flag::SendTime | Flag::GotTime => Ok(Came::Time),
-            Flag::Other(code) => Ok(Came::Other(code)),
+            Flag::Last(end) => Ok(Received::Whole(self.held.close(end)?)),
+            Flag::Part => Ok(Received::Piece),
+            Flag::SendTime | Flag::GotTime => Ok(Received::Time),
+            Flag::Other(code) => Ok(Received::Other(code)),
         }
     }
 
@@ -134,19 +134,19 @@ impl FrameReader {
     /// # Errors
     ///
     /// `AllocError` if memory was refused for a packet that ends. Its bytes are then still held.
-    pub fn take(&mut self, bytes: &[u8]) -> Result<(usize, Option<Came>), AllocError>
+    pub fn take(&mut self, bytes: &[u8]) -> Result<(usize, Option<Received>), AllocError>
         requires { bytes.now ≢ [] }
         ensures some { IfOk result (λ r. 0 < r.0) }
         ensures few { IfOk result (λ r. r.0 ≤ length bytes.now) }
-        ensures came { IfOk result (λ r. came_in self.old (take r.0 bytes.now) ≡ onto r.1 []) }
-        ensures read { IfOk result (λ r. self.new ≡ after self.old (take r.0 bytes.now)) }
+        ensures received { IfOk result (λ r. received_in self.old (take r.0 bytes.now) ≡ onto r.1 []) }
+        ensures read { IfOk result (λ r. self.new ≡ reading_after self.old (take r.0 bytes.now)) }
         ensures cut { IfErr result (λ _. EndsUnpacked self.old bytes.now self.new) }
     {
         let count = self.take_next(bytes);
         if !self.is_between() {
             return Ok((count, None));
         }
-        let came = self.end()?;
-        Ok((count, Some(came)))
+        let received = self.end()?;
+        Ok((count, Some(received)))
     }
 }

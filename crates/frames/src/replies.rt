@@ -5,15 +5,15 @@ ghost use Rattle.frames.specs.Heads.{head_bytes};
 ghost use Rattle.frames.specs.Streams.{reply_frame_of};
 
 use crate::flags::Flag;
-use crate::heads::{HEAD_LENGTH, Head};
+use crate::heads::{HEAD_LENGTH, FrameHead};
 use spw::End;
 
 /// The head of the frame of a packet that ends in EOP with it.
-fn head_of(reply: &[u8]) -> Head
+fn head_of(reply: &[u8]) -> FrameHead
     ensures bytes { head_bytes result ++ reply.now ≡ reply_frame_of reply.now }
     ensures few { result.length < 256 ^ 10 }
 {
-    Head {
+    FrameHead {
         flag: Flag::Last(End::Eop),
         length: reply.len() as u128,
     }

@@ -23,21 +23,21 @@ take_code (Some s) room = if is_whole s then (if nat_lt room MAX_PACKET then NO_
 -- numbers say how many and what came. A packet is at the front of the room, with the rest of it as before, and that
 -- much was read. The reader is whole then.
 pub record TakesBytes (bytes room left : List ℕ) (numbers : CameNumbers) (s next : CheckedReading) : Type 0 where
-  pub numbers_are : numbers ≡ came_numbers (take_whole s.reading bytes).count (take_whole s.reading bytes).came
-  pub left_is : left ≡ put_front room (packet_in (take_whole s.reading bytes).came)
+  pub numbers_are : numbers ≡ came_numbers (take_whole s.reading bytes).count (take_whole s.reading bytes).received
+  pub left_is : left ≡ put_front room (packet_in (take_whole s.reading bytes).received)
   pub next_is : next ≡ checked (take_whole s.reading bytes).next
 
 -- the handle held a reader and holds one, which are in that relation
-abbrev pub Becomes : (CheckedReading → CheckedReading → Type 0) → (old new : Option CheckedReading) → Type 0
-Becomes Relates None new = ⊥
-Becomes Relates (Some before) None = ⊥
-Becomes Relates (Some before) (Some after) = Relates before after
+abbrev pub BecomesReader : (CheckedReading → CheckedReading → Type 0) → (old new : Option CheckedReading) → Type 0
+BecomesReader Relates None new = ⊥
+BecomesReader Relates (Some before) None = ⊥
+BecomesReader Relates (Some before) (Some after) = Relates before after
 
 -- What a call that takes bytes answers and does. At any code except `OK` the reader, the room and the numbers are as
 -- before.
-pub record TakesFrames (bytes room left : List ℕ) (before told : CameNumbers) (old new : Option CheckedReading) (code : ℕ) : Type 0 where
+pub record TakesFrames (bytes room left : List ℕ) (before reported : CameNumbers) (old new : Option CheckedReading) (code : ℕ) : Type 0 where
   pub is_code : code ≡ take_code old (length room)
-  pub taken : code ≡ OK → Becomes (TakesBytes bytes room left told) old new
+  pub taken : code ≡ OK → BecomesReader (TakesBytes bytes room left reported) old new
   pub same_reader : code ≢ OK → new ≡ old
   pub same_room : code ≢ OK → left ≡ room
-  pub same_numbers : code ≢ OK → told ≡ before
+  pub same_numbers : code ≢ OK → reported ≡ before

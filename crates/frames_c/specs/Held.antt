@@ -2,5 +2,5 @@
 use Rattle.std.specs.Prelude.{ℕ}
 
 -- what is in `live` of a handle that holds a reader: another number than in the handle of a node
-abbrev pub mark : ℕ
-mark = 938
+abbrev pub reader_mark : ℕ
+reader_mark = 938

@@ -17,7 +17,7 @@ use crate::codes::{DAMAGED, IS_OPEN, NO_MEMORY, NO_NODE, NO_ROOM, OK};
 use crate::handle::FramesHandle;
 use crate::held::{put_in, take_out};
 use crate::numbers::CameNumbers;
-use frames::{Flag, HEAD_LENGTH, Head};
+use frames::{Flag, HEAD_LENGTH, FrameHead};
 use spw::{End, MAX_PACKET};
 use std::alloc::{AllocError, Global};
 
@@ -37,9 +37,9 @@ fn take_into(
     frames: &mut CheckedFrames,
     bytes: &[u8],
     packet: &mut [u8],
-    came: &mut CameNumbers,
+    received: &mut CameNumbers,
 ) -> u32
-    ensures { TakesFrames bytes.now packet.old packet.new came.old came.new
+    ensures { TakesFrames bytes.now packet.old packet.new received.old received.new
         (Some frames.old) (Some frames.new) result }
 {
     if !frames.is_whole() {
@@ -48,7 +48,7 @@ fn take_into(
     if packet.len() < MAX_PACKET {
         return NO_ROOM;
     }
-    *came = frames.take(bytes, packet);
+    *received = frames.take(bytes, packet);
     OK
 }
 
@@ -78,15 +78,15 @@ impl FramesHandle {
         alloc: Global,
         bytes: &[u8],
         packet: &mut [u8],
-        came: &mut CameNumbers,
+        received: &mut CameNumbers,
     ) -> u32
-        ensures { TakesFrames bytes.now packet.old packet.new came.old came.new
+        ensures { TakesFrames bytes.now packet.old packet.new received.old received.new
             self.old.kept self.new.kept result }
     {
         let Some(mut frames) = take_out(alloc, self) else {
             return NO_NODE;
         };
-        let code = take_into(&mut frames, bytes, packet, came);
+        let code = take_into(&mut frames, bytes, packet, received);
         put_in(alloc, self, frames);
         code
     }
@@ -110,7 +110,7 @@ pub fn head(reply_length: u32, head: &mut [u8; HEAD_LENGTH])
     ensures frame { (reply : List ℕ) → length reply ≡ reply_length
         → head.new ++ reply ≡ reply_frame_of reply }
 {
-    let whole = Head {
+    let whole = FrameHead {
         flag: Flag::Last(End::Eop),
         length: u128::from(reply_length),
     };

@@ -2,7 +2,7 @@
 
 ghost use Rattle.std.specs.Prelude.{◌≡◌, ◌≤◌, IfOk, length};
 ghost use Rattle.frames.specs.Reading.{first_reading};
-ghost use Rattle.frames_c.specs.Whole.{checked, complement, is_whole};
+ghost use Rattle.frames_c.specs.Whole.{checked, complement_of_left, is_whole};
 ghost use Rattle.frames_c.specs.Numbers.{came_numbers, packet_in};
 ghost use Rattle.frames_c.specs.Taking.{take_whole};
 ghost use Rattle.spw.specs.Rooms.{put_front};
@@ -18,7 +18,7 @@ use std::marker::Model;
 #[derive(Drop)]
 pub struct CheckedFrames {
     frames: Frames,
-    complement: u128,
+    complement_of_left: u128,
     sum: u64,
 }
 
@@ -27,12 +27,12 @@ impl Model for CheckedFrames {
 
     ghost Value = { CheckedReading };
 
-    ghost view = { λ c. record { reading = c.frames; complement = c.complement; sum = c.sum } };
+    ghost view = { λ c. record { reading = c.frames; complement_of_left = c.complement_of_left; sum = c.sum } };
 }
 
 /// The complement of a count.
-fn complement(left: u128) -> u128
-    ensures { result ≡ complement left }
+fn complement_of_left(left: u128) -> u128
+    ensures { result ≡ complement_of_left left }
 {
     u128::MAX - left
 }
@@ -48,10 +48,10 @@ impl CheckedFrames {
     {
         let frames = Frames::new(alloc)?;
         let sum = frames.state_sum();
-        let complement = complement(frames.left());
+        let complement_of_left = complement_of_left(frames.left());
         Ok(CheckedFrames {
             frames,
-            complement,
+            complement_of_left,
             sum,
         })
     }
@@ -60,7 +60,7 @@ impl CheckedFrames {
     pub fn is_whole(&self) -> bool
         ensures { result ≡ is_whole self.now }
     {
-        self.complement == complement(self.frames.left()) && self.sum == self.frames.state_sum()
+        self.complement_of_left == complement_of_left(self.frames.left()) && self.sum == self.frames.state_sum()
     }
 
     /// Takes bytes up to the first with which something came whole, or all of them if nothing does, and reports how
@@ -68,14 +68,14 @@ impl CheckedFrames {
     /// packet.
     pub fn take(&mut self, bytes: &[u8], room: &mut [u8]) -> CameNumbers
         requires { MAX_PACKET ≤ length room.old }
-        ensures told { result
-            ≡ came_numbers (take_whole self.old.reading bytes.now).count (take_whole self.old.reading bytes.now).came }
-        ensures room { room.new ≡ put_front room.old (packet_in (take_whole self.old.reading bytes.now).came) }
+        ensures reported { result
+            ≡ came_numbers (take_whole self.old.reading bytes.now).count (take_whole self.old.reading bytes.now).received }
+        ensures room { room.new ≡ put_front room.old (packet_in (take_whole self.old.reading bytes.now).received) }
         ensures read { self.new ≡ checked (take_whole self.old.reading bytes.now).next }
     {
-        let came = self.frames.take(bytes, room);
-        self.complement = complement(self.frames.left());
+        let received = self.frames.take(bytes, room);
+        self.complement_of_left = complement_of_left(self.frames.left());
         self.sum = self.frames.state_sum();
-        came
+        received
     }
 }

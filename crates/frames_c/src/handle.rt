@@ -24,11 +24,11 @@ pub struct FramesHandle {
 }
 
 impl Model for FramesHandle {
-    ghost use Rattle.loose.specs.Held.{held};
-    ghost use Rattle.frames_c.specs.Held.{mark};
+    ghost use Rattle.loose.specs.Held.{held_handle};
+    ghost use Rattle.frames_c.specs.Held.{reader_mark};
     ghost use Rattle.frames_c.specs.contracts.checked.CheckedFrames.{the_row};
 
-    ghost also_owns = { λ h. held mark the_row h.inside h.live h.kept };
+    ghost also_owns = { λ h. held_handle reader_mark the_row h.inside h.live h.kept };
 }
 
 impl FramesHandle {

@@ -1,7 +1,7 @@
 //! A reader of frames that takes memory only when it is made.
 
 ghost use Rattle.std.specs.Prelude.{◌≡◌, ◌≢◌, ◌≤◌, [], Some, IfOk, length};
-ghost use Rattle.frames.specs.Reading.{behind_end, came_of, comes, first_reading, in_body, in_head, next, step};
+ghost use Rattle.frames.specs.Reading.{after_end, received_of, comes, first_reading, in_body, in_head, next, reading_step};
 ghost use Rattle.frames.specs.declared.flags.Flag.TheVariants.{Last};
 ghost use Rattle.frames_c.specs.Whole.{state_sum};
 ghost use Rattle.frames_c.specs.Numbers.{came_numbers, numbers_if, packet_in};
@@ -118,9 +118,9 @@ impl Frames {
     /// Ends a packet after that many bytes. Its bytes go to the front of the room, and nothing is held.
     fn end_packet(&mut self, end: End, taken: u64, room: &mut [u8]) -> CameNumbers
         requires { MAX_PACKET ≤ length room.old }
-        ensures told { result ≡ came_numbers taken (Some (came_of (Last end) self.old.held)) }
+        ensures reported { result ≡ came_numbers taken (Some (received_of (Last end) self.old.held)) }
         ensures room { room.new ≡ put_front room.old self.old.held }
-        ensures behind { self.new
+        ensures following { self.new
             ≡ record { head = self.old.head; flag = self.old.flag; left = self.old.left; held = [] } }
     {
         let bytes = self.held.bytes();
@@ -141,10 +141,10 @@ impl Frames {
     /// packet go to the front of the room.
     fn end(&mut self, taken: u64, room: &mut [u8]) -> Option<CameNumbers>
         requires { MAX_PACKET ≤ length room.old }
-        ensures told { result ≡ numbers_if taken (whole_of (came_of self.old.flag self.old.held)) }
+        ensures reported { result ≡ numbers_if taken (whole_of (received_of self.old.flag self.old.held)) }
         ensures room { room.new
-            ≡ put_front room.old (packet_in (whole_of (came_of self.old.flag self.old.held))) }
-        ensures behind { self.new ≡ behind_end self.old }
+            ≡ put_front room.old (packet_in (whole_of (received_of self.old.flag self.old.held))) }
+        ensures following { self.new ≡ after_end self.old }
     {
         match Flag::from_code(self.code) {
             Flag::Last(end) => Some(self.end_packet(end, taken, room)),
@@ -165,9 +165,9 @@ impl Frames {
     /// go to the front of the room.
     fn step(&mut self, byte: u8, taken: u64, room: &mut [u8]) -> Option<CameNumbers>
         requires { MAX_PACKET ≤ length room.old }
-        ensures told { result ≡ numbers_if taken (whole_in (comes self.old byte)) }
+        ensures reported { result ≡ numbers_if taken (whole_in (comes self.old byte)) }
         ensures room { room.new ≡ put_front room.old (packet_in (whole_in (comes self.old byte))) }
-        ensures read { self.new ≡ step self.old byte }
+        ensures read { self.new ≡ reading_step self.old byte }
     {
         self.take_byte(byte);
         if self.left == 0 && self.head.is_empty() {
@@ -182,17 +182,17 @@ impl Frames {
     /// packet.
     pub fn take(&mut self, bytes: &[u8], room: &mut [u8]) -> CameNumbers
         requires { MAX_PACKET ≤ length room.old }
-        ensures told { result
-            ≡ came_numbers (take_whole self.old bytes.now).count (take_whole self.old bytes.now).came }
-        ensures room { room.new ≡ put_front room.old (packet_in (take_whole self.old bytes.now).came) }
+        ensures reported { result
+            ≡ came_numbers (take_whole self.old bytes.now).count (take_whole self.old bytes.now).received }
+        ensures room { room.new ≡ put_front room.old (packet_in (take_whole self.old bytes.now).received) }
         ensures read { self.new ≡ (take_whole self.old bytes.now).next }
     {
         let mut taken = 0;
         let mut rest = bytes;
         while let [first, others @ ..] = rest {
             taken += 1;
-            if let Some(came) = self.step(*first, taken, room) {
-                return came;
+            if let Some(received) = self.step(*first, taken, room) {
+                return received;
             }
             rest = others;
         }

@@ -15,7 +15,7 @@ use Rattle.rmap.specs.Reply.{with_crc}
 use Rattle.std.specs.Prelude.{slice_get}
 use Rattle.rmap.specs.Windows.{WindowsValue, bank_place, boot_place, place_of}
 use Rattle.initiator.specs.declared.write.CommandFields.{CommandFields}
-use Rattle.initiator.specs.Loads.{control_bytes, control_request, part_of, result_request, stage_request}
+use Rattle.initiator.specs.Loads.{control_bytes_of, control_request, part_of, result_request, stage_request}
 use Rattle.initiator.specs.LoadPackets.{AreFieldsOf, AreForNode, IsTakenAt, LoadPacketsAreTaken}
 use Rattle.initiator.specs.Writing.{command_with, header_with}
 use Rattle.initiator.proofs.MadeRead.{bodies_are_right, is_made, length_is}
@@ -116,9 +116,9 @@ staged_is_taken w f transaction image number n h short within =
     }
 
 -- the control write
-control_is_taken : (w : WindowsValue) (f : CommandFields) (transaction : ℕ) (image : List ℕ) (slot : ℕ) → AreForNode w f → AreFieldsOf (control_request transaction image) f → IsTakenAt w f (with_crc (control_bytes slot image)) Write Control
+control_is_taken : (w : WindowsValue) (f : CommandFields) (transaction : ℕ) (image : List ℕ) (slot : ℕ) → AreForNode w f → AreFieldsOf (control_request transaction image) f → IsTakenAt w f (with_crc (control_bytes_of slot image)) Write Control
 control_is_taken w f transaction image slot n h =
-    let body = with_crc (control_bytes slot image) in
+    let body = with_crc (control_bytes_of slot image) in
     let c = command_with f body in
     let kind : kind_of f.instruction.0 ≡ Write = writes_so f.instruction.0 h.kind h.code in
     let bits = bits_of f.instruction.0 11 h.code refl in
@@ -133,7 +133,7 @@ control_is_taken w f transaction image slot n h =
       is_kind = kind;
       replied = bits.1;
       placed = (write_passes w c Control kind n.target bits.2 (omega (arith, count)) place, place);
-      right = bodies_are_right.carried f (control_bytes slot image) h.fields carries (sym h.count);
+      right = bodies_are_right.carried f (control_bytes_of slot image) h.fields carries (sym h.count);
     }
 
 -- the read of the load result

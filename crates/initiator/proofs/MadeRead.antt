@@ -39,7 +39,7 @@ made_is_read f body h fit = (
     extended = refl;
     address = big_number-reads_back 4 f.address (big_bytes 3 f.length ++ crc_of (header_with f) ∷ []) (omega (arith, fit.address));
     data_length = length_is f body h;
-    behind = refl;
+    following = refl;
   },
 )
 

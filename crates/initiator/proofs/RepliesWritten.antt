@@ -10,7 +10,7 @@ use Rattle.rmap.specs.declared.status.Status.{Status}
 use Rattle.rmap.specs.Codes.{status_code}
 use Rattle.rmap.specs.Command.{CommandValue, IsHeader, initiator_of, instruction_of, target_of, transaction_of, writes, wants_reply}
 use Rattle.rmap.specs.Reply.{reply_body, reply_header, reply_instruction, reply_of, reply_path_of, with_crc}
-use Rattle.initiator.specs.ReplyReading.{ReplyValue, IsReply, Answers, behind_path, reply_to, form_length, announced_length, checked_data}
+use Rattle.initiator.specs.ReplyReading.{ReplyValue, IsReply, Answers, after_reply_path, reply_to, form_length, announced_length, checked_data}
 use Rattle.initiator.proofs.RepliesRead.{replies_are_read, right_crc}
 
 -- a transaction identifier has two bytes
@@ -55,7 +55,7 @@ body_is true bytes = refl
 body_is false bytes = refl
 
 -- the reply to a command is read as one, and has its fields
-pub written_is_read : (c : CommandValue) (status : Status) (bytes : List ℕ) → IsHeader c → All (λ b. b < 256) c.tail → length bytes ≤ 4096 → IsReply (behind_path c status bytes) (reply_to c status bytes) × Answers c status bytes (reply_to c status bytes)
+pub written_is_read : (c : CommandValue) (status : Status) (bytes : List ℕ) → IsHeader c → All (λ b. b < 256) c.tail → length bytes ≤ 4096 → IsReply (after_reply_path c status bytes) (reply_to c status bytes) × Answers c status bytes (reply_to c status bytes)
 written_is_read c status bytes h small few =
     let w = writes c in
     let a = initiator_of c in
@@ -85,7 +85,7 @@ written_is_read c status bytes h small few =
     )
 
 -- a reply that is wanted is its path and what follows it
-pub has_path : (c : CommandValue) (status : Status) (bytes : List ℕ) → wants_reply c ≡ true → reply_of c status bytes ≡ reply_path_of c.reply_address ++ behind_path c status bytes
+pub has_path : (c : CommandValue) (status : Status) (bytes : List ℕ) → wants_reply c ≡ true → reply_of c status bytes ≡ reply_path_of c.reply_address ++ after_reply_path c status bytes
 has_path c status bytes wanted = rw wanted (append_assoc (reply_path_of c.reply_address) (with_crc (reply_header c status bytes)) (reply_body c bytes))
 
 -- bytes are at most one reply

@@ -6,7 +6,7 @@ use Rattle.rmap.specs.Instruction.{carries_data, kind_of}
 use Rattle.rmap.specs.Command.{CommandValue, IsHeader, IsCommand, bytes_of, wants_reply}
 use Rattle.rmap.specs.Checks.{body_line}
 use Rattle.rmap.specs.Reply.{reply_of, reply_path_of, with_crc}
-use Rattle.initiator.specs.ReplyReading.{Answers, IsReply, ReplyValue, behind_path, reply_to}
+use Rattle.initiator.specs.ReplyReading.{Answers, IsReply, ReplyValue, after_reply_path, reply_to}
 use Rattle.initiator.specs.declared.write.CommandFields.{CommandFields}
 use Rattle.initiator.specs.declared.write.TheConstants.{DATA_OVERHEAD}
 use Rattle.initiator.specs.Writing.{AreFields, Fit, HasFields, command_with}
@@ -19,7 +19,7 @@ ReplyIsUnique = (bytes : List ℕ) (r s : ReplyValue) → IsReply bytes r → Is
 abbrev pub RepliesHavePaths : Type 0
 RepliesHavePaths =
     (c : CommandValue) (status : Status) (bytes : List ℕ) → wants_reply c ≡ true
-    → reply_of c status bytes ≡ reply_path_of c.reply_address ++ behind_path c status bytes
+    → reply_of c status bytes ≡ reply_path_of c.reply_address ++ after_reply_path c status bytes
 
 -- what comes after the path of a reply is read as the reply with that status and those data, and with the command's
 -- fields
@@ -27,7 +27,7 @@ abbrev pub WrittenRepliesAreRead : Type 0
 WrittenRepliesAreRead =
     (c : CommandValue) (status : Status) (bytes : List ℕ) → IsHeader c → All (λ b. b < 256) c.tail
     → length bytes ≤ MAX_DATA
-    → IsReply (behind_path c status bytes) (reply_to c status bytes) × Answers c status bytes (reply_to c status bytes)
+    → IsReply (after_reply_path c status bytes) (reply_to c status bytes) × Answers c status bytes (reply_to c status bytes)
 
 -- the bytes that are made of fields are a command with those fields
 abbrev pub MadeCommandsAreRead : Type 0

@@ -13,7 +13,7 @@ use Rattle.rmap.specs.Reply.{with_crc}
 use Rattle.rmap.specs.Windows.{WindowsValue}
 use Rattle.initiator.specs.declared.requests.Request.{Request}
 use Rattle.initiator.specs.declared.write.CommandFields.{CommandFields}
-use Rattle.initiator.specs.Loads.{control_bytes, control_request, part_of, result_request, stage_request}
+use Rattle.initiator.specs.Loads.{control_bytes_of, control_request, part_of, result_request, stage_request}
 use Rattle.initiator.specs.Writing.{AreFields, command_with}
 
 -- the fields of a command are those of the request
@@ -47,6 +47,6 @@ pub record LoadPacketsAreTaken : Type 0 where
       → AreFieldsOf (stage_request transaction (part_of image number) number) f → length image ≤ STAGING_SIZE
       → MAX_DATA * number < length image → IsTakenAt w f (with_crc (part_of image number)) Write Staging
   pub controlled : (w : WindowsValue) (f : CommandFields) (transaction : ℕ) (image : List ℕ) (slot : ℕ) → AreForNode w f
-      → AreFieldsOf (control_request transaction image) f → IsTakenAt w f (with_crc (control_bytes slot image)) Write Control
+      → AreFieldsOf (control_request transaction image) f → IsTakenAt w f (with_crc (control_bytes_of slot image)) Write Control
   pub read : (w : WindowsValue) (f : CommandFields) (transaction : ℕ) (image : List ℕ) → AreForNode w f
       → AreFieldsOf (result_request transaction image) f → IsTakenAt w f [] Read LoadResult

@@ -8,8 +8,8 @@ use Rattle.initiator.specs.declared.requests.Request.{Request}
 use Rattle.initiator.specs.CommandCodes.{read_code, write_code}
 
 -- the command code of a write with reply and increment
-abbrev pub load_code : ℕ
-load_code = write_code false true true
+abbrev pub load_write_code : ℕ
+load_write_code = write_code false true true
 
 -- the command code of a read with increment
 abbrev pub result_code : ℕ
@@ -26,7 +26,7 @@ part_of image number = take MAX_DATA (drop (MAX_DATA * number) image)
 -- the write of a part to the staging, if the load begins with this transaction identifier
 abbrev pub stage_request : (transaction : ℕ) → (part : List ℕ) → (number : ℕ) → Request
 stage_request transaction part number = record {
-  code = load_code;
+  code = load_write_code;
   transaction = further transaction number;
   extended = BOOT_WINDOW;
   address = MAX_DATA * number;
@@ -40,7 +40,7 @@ part_count image = (length image + 4095) / 4096
 -- the control write
 abbrev pub control_request : (transaction : ℕ) → (image : List ℕ) → Request
 control_request transaction image = record {
-  code = load_code;
+  code = load_write_code;
   transaction = further transaction (part_count image);
   extended = BOOT_WINDOW;
   address = LOAD_REGISTER;
@@ -52,8 +52,8 @@ abbrev pub asked_for : (slot : ℕ) → (image : List ℕ) → ControlData
 asked_for slot image = record { slot = slot; zero = 0; length = length image }
 
 -- the data of the control write
-abbrev pub control_bytes : (slot : ℕ) → (image : List ℕ) → List ℕ
-control_bytes slot image = bytes_of_control (asked_for slot image)
+abbrev pub control_bytes_of : (slot : ℕ) → (image : List ℕ) → List ℕ
+control_bytes_of slot image = bytes_of_control (asked_for slot image)
 
 -- the read of the load result
 abbrev pub result_request : (transaction : ℕ) → (image : List ℕ) → Request

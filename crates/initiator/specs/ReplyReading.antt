@@ -131,8 +131,8 @@ GivesAnyReplyOf bytes given = (r : ReplyValue) → IsReply bytes r → given ≡
 -- ---- what is written is read
 
 -- what follows the path of a reply
-abbrev pub behind_path : CommandValue → Status → List ℕ → List ℕ
-behind_path c status bytes = with_crc (reply_header c status bytes) ++ reply_body c bytes
+abbrev pub after_reply_path : CommandValue → Status → List ℕ → List ℕ
+after_reply_path c status bytes = with_crc (reply_header c status bytes) ++ reply_body c bytes
 
 -- the reply to a command with that status and those bytes as its data
 abbrev pub reply_to : CommandValue → Status → List ℕ → ReplyValue

@@ -50,7 +50,7 @@ pub record HasFields (f : CommandFields) (body : List ℕ) (c : CommandValue) : 
   pub extended : extended_of c ≡ f.extended
   pub address : address_of c ≡ f.address
   pub data_length : length_of c ≡ f.length
-  pub behind : c.body ≡ body
+  pub following : c.body ≡ body
 
 -- the numbers fit the fields of a command
 pub record Fit (f : CommandFields) : Type 0 where

@@ -1,7 +1,7 @@
 //! The command codes of commands that an initiator makes (ECSS-E-ST-50-52C, instruction field).
 
 ghost use Rattle.std.specs.Prelude.{◌≡◌, ◌<◌};
-ghost use Rattle.initiator.specs.CommandCodes.{bit_of, read_code, rmw_code, write_code};
+ghost use Rattle.initiator.specs.CommandCodes.{instruction_bit_of, read_code, rmw_code, write_code};
 
 /// The command code of a read-modify-write.
 pub const RMW_CODE: u8 = 0b0111;
@@ -12,8 +12,8 @@ pub fn rmw_code_is_its_own()
 {}
 
 /// A bit of an instruction.
-fn bit_of(set: bool) -> u8
-    ensures { result ≡ bit_of set }
+fn instruction_bit_of(set: bool) -> u8
+    ensures { result ≡ instruction_bit_of set }
 {
     if set { 1 } else { 0 }
 }
@@ -22,12 +22,12 @@ fn bit_of(set: bool) -> u8
 pub fn read_code(increment: bool) -> u8
     ensures { result ≡ read_code increment }
 {
-    2 + bit_of(increment)
+    2 + instruction_bit_of(increment)
 }
 
 /// The command code of a write: 1, and the bits for verified data, a reply and increment.
 pub fn write_code(verify: bool, reply: bool, increment: bool) -> u8
     ensures { result ≡ write_code verify reply increment }
 {
-    8 + 4 * bit_of(verify) + 2 * bit_of(reply) + bit_of(increment)
+    8 + 4 * instruction_bit_of(verify) + 2 * instruction_bit_of(reply) + instruction_bit_of(increment)
 }

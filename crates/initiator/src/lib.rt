@@ -4,7 +4,7 @@
 //! - A [`Reply`] is a view of a reply's bytes. If they are none, [`NoReply`] says why.
 //! - A load is its [`Request`]s: [`stage_request`] for each part of the image, [`control_request`] and
 //!   [`result_request`].
-//! - [`Seen`] says what a packet on the link is.
+//! - [`PacketForm`] says what a packet on the link is.
 #![tactic(auto)]
 
 mod codes;
@@ -13,7 +13,7 @@ mod loads;
 mod no_reply;
 mod reply_view;
 mod requests;
-mod seen;
+mod packet_form;
 mod write;
 
 pub use codes::{RMW_CODE, read_code, rmw_code_is_its_own, write_code};
@@ -25,5 +25,5 @@ pub use no_reply::NoReply;
 pub use reply_view::Reply;
 pub use requests::Request;
 pub use rmap::LAST_SLOT;
-pub use seen::Seen;
+pub use packet_form::PacketForm;
 pub use write::{CommandFields, DATA_OVERHEAD, body_with_crc, write_command};

@@ -3,7 +3,7 @@
 
 ghost use Rattle.std.specs.Prelude.{◌≡◌, ◌≤◌, ◌<◌, ◌*◌, ◌^◌, IfOk, length, take};
 ghost use Rattle.rmap.specs.Reply.{with_crc};
-ghost use Rattle.initiator.specs.Loads.{control_bytes, control_request, part_count, part_of, result_request, stage_request};
+ghost use Rattle.initiator.specs.Loads.{control_bytes_of, control_request, part_count, part_of, result_request, stage_request};
 
 use crate::codes::{read_code, write_code};
 use crate::requests::Request;
@@ -103,7 +103,7 @@ pub fn result_request(transaction: u16, image: &[u8]) -> Request
 /// Memory is refused.
 pub fn control_body(alloc: Global, slot: u8, image: &[u8]) -> Result<Vec<u8>, AllocError>
     requires { length image.now ≤ STAGING_SIZE }
-    ensures { IfOk result (λ body. body.items ≡ with_crc (control_bytes slot image.now)) }
+    ensures { IfOk result (λ body. body.items ≡ with_crc (control_bytes_of slot image.now)) }
 {
     let control = ControlData {
         slot,

@@ -7,7 +7,7 @@ use Rattle.policy_table.specs.Policies.{PolicyValue}
 use Rattle.policy_table.specs.PortTables.{AreAskedAlike, UnnamedPortsAreAlike, is_named}
 use Rattle.policy_table.specs.Ports.{rules_at}
 use Rattle.policy_table.specs.declared.rules.Rule.{Rule}
-use Rattle.regions.specs.declared.regions.Region.{Region}
+use Rattle.regions.specs.declared.regions.PointRegion.{PointRegion}
 use Rattle.job_charts.specs.ComparedFile.{AreSameAt, AreSameAtAll, AreSameIfCharted}
 use Rattle.chart_lines.specs.Ports.{are_named, is_named_by}
 
@@ -53,7 +53,7 @@ free_below : (named : ℕ → Bool) (port : ℕ) → FreeBelow named port
 free_below named zero = inl refl
 free_below named (suc port) = free_next named port (named port) refl (free_below named port)
 
-module _ (asked : Region) (law : UnnamedPortsAreAlike) (one other : PolicyValue) (same : (port : ℕ) → port < 32 → AreSameIfCharted asked one other port) where
+module _ (asked : PointRegion) (law : UnnamedPortsAreAlike) (one other : PolicyValue) (same : (port : ℕ) → port < 32 → AreSameIfCharted asked one other port) where
   abbrev pub named : ℕ → Bool
   named port = is_named_by one other port
 
@@ -75,7 +75,7 @@ module _ (asked : Region) (law : UnnamedPortsAreAlike) (one other : PolicyValue)
   at_port port false within is = found port within is (free_below named port)
 
 -- two tables that are the same at each port of which a chart is made are the same at each
-pub same_at_all : (asked : Region) → UnnamedPortsAreAlike → (one other : PolicyValue) → ((port : ℕ) → port < 32 → AreSameIfCharted asked one other port) → AreSameAtAll asked one other
+pub same_at_all : (asked : PointRegion) → UnnamedPortsAreAlike → (one other : PolicyValue) → ((port : ℕ) → port < 32 → AreSameIfCharted asked one other port) → AreSameAtAll asked one other
 same_at_all asked law one other same port within = at_port asked law one other same port (is_named_by one other port) within refl
 
 -- a port more of which something holds
@@ -85,7 +85,7 @@ one_more P count port true is below own within =
 one_more P count port false is below own within =
     let last : count ≡ port = grind (arith, nat_tests) in subst P last own
 
-pub same_more : (asked : Region) (one other : PolicyValue) (count : ℕ) → ((port : ℕ) → port < count → AreSameIfCharted asked one other port) → AreSameIfCharted asked one other count
+pub same_more : (asked : PointRegion) (one other : PolicyValue) (count : ℕ) → ((port : ℕ) → port < count → AreSameIfCharted asked one other port) → AreSameIfCharted asked one other count
     → (port : ℕ) → port < count + 1 → AreSameIfCharted asked one other port
 same_more asked one other count below own port within =
     one_more (λ p. AreSameIfCharted asked one other p) count port (nat_lt port count) refl below own within

@@ -4,11 +4,11 @@ use Rattle.charts.specs.Same.{AreSame}
 use Rattle.policy_table.specs.Policies.{PolicyValue}
 use Rattle.policy_table.specs.Ports.{rules_at}
 use Rattle.policy_table.specs.declared.rules.Rule.{Rule}
-use Rattle.regions.specs.declared.regions.Region.{Region}
+use Rattle.regions.specs.declared.regions.PointRegion.{PointRegion}
 use Rattle.chart_lines.specs.AskedTables.{AskedValue, asked_at}
 use Rattle.job_charts.specs.ComparedFile.{AreSameAt, AreSameIfCharted, DifferAt, HaveDifference, HaveDifferenceAt}
 
-module _ (asked : Region) (one other : PolicyValue) (port : ℕ) where
+module _ (asked : PointRegion) (one other : PolicyValue) (port : ℕ) where
   -- if they do not differ
   pub not_apart : (is : Bool) → is ≡ false → MatchBool is (DifferAt asked one other port) (AreSameIfCharted asked one other port)
       → AreSameIfCharted asked one other port

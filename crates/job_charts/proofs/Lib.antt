@@ -1,7 +1,7 @@
 mod PacketBytes
 mod Charted
 mod DifferAt
-mod Telling
+mod Reporting
 mod Meeting
 mod AskingFault
 mod Addresses

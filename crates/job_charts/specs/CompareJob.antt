@@ -2,13 +2,13 @@
 use Rattle.std.specs.Prelude.{◌≡◌, ◌⊎◌, false, List, Some, None, codes, string_bytes}
 use Rattle.clap.specs.Walk.{Row, first_of}
 use Rattle.clap.specs.Simple.{App, new_app, with_rule}
-use Rattle.job_parts.specs.Arguments.{file_rule, flag_rule, is_set, option_rule}
+use Rattle.job_parts.specs.Arguments.{file_rule, flag_rule, is_flag_set, option_rule}
 use Rattle.job_parts.specs.Options.{GivesSizes, IsBadList}
 use Rattle.job_parts.specs.TwoFiles.{NamesOneInput, are_one_input}
 use Rattle.job_parts.specs.declared.usage.UsageFault.{UsageFault}
 use Rattle.job_parts.specs.declared.usage.UsageFault.TheVariants.{Parse, BadOption, Memory}
 use Rattle.job_decide.specs.DecideJob.{own_windows}
-use Rattle.job_charts.specs.Asking.{GivesAsking, SpoilsAsking, with_asking}
+use Rattle.job_charts.specs.ChartScope.{GivesAsking, SpoilsAsking, with_asking}
 use Rattle.job_charts.specs.declared.compare.CompareWords.{CompareWords}
 
 -- `compare OLD NEW [--maps LIST] [--markdown]`, and after it the options of the commands that are asked of
@@ -26,7 +26,7 @@ pub record NamesCompare (rows : List Row) (words : CompareWords) : Type 0 where
   pub new : first_of (codes "new") rows ≡ Some (string_bytes words.new)
   pub apart : are_one_input (string_bytes words.old) (string_bytes words.new) ≡ false
   pub sizes : GivesSizes (first_of (codes "maps") rows) words.sizes
-  pub markdown : words.markdown ≡ is_set (codes "markdown") rows
+  pub markdown : words.markdown ≡ is_flag_set (codes "markdown") rows
   pub windows : words.windows ≡ own_windows
   pub asking : GivesAsking rows words.asking
 

@@ -9,26 +9,26 @@ use Rattle.policy_table.specs.declared.rules.Rule.{Rule}
 use Rattle.policy_table.specs.declared.text_faults.TextFault.{TextFault}
 use Rattle.regions.specs.declared.points.Point.{Point}
 use Rattle.job_decide.specs.Tables.{HoldsBadDrawn, HoldsDrawn}
-use Rattle.job_parts.specs.Files.{Reads}
+use Rattle.job_parts.specs.Files.{ReadsFile}
 use Rattle.job_parts.specs.Reading.{TextUnread}
-use Rattle.job_parts.specs.TwoFiles.{TellsNamedFault}
+use Rattle.job_parts.specs.TwoFiles.{PrintsNamedFault}
 use Rattle.job_parts.specs.declared.faults.Fault.{Fault}
 use Rattle.job_parts.specs.declared.faults.Fault.TheVariants.{NoMemory}
-use Rattle.job_parts.specs.declared.status.Status.{Status}
-use Rattle.job_parts.specs.declared.status.Status.TheVariants.{Done, Failed, Misused}
+use Rattle.job_parts.specs.declared.status.ExitStatus.{ExitStatus}
+use Rattle.job_parts.specs.declared.status.ExitStatus.TheVariants.{Done, Failed, Misused}
 use Rattle.chart_lines.specs.Compared.{AreDifferenceRows}
 use Rattle.chart_lines.specs.Ports.{is_charted, is_named_by}
 use Rattle.chart_lines.specs.Rows.{RowValue}
-use Rattle.regions.specs.declared.regions.Region.{Region}
-use Rattle.job_charts.specs.Asking.{IsAskedRegion}
-use Rattle.job_charts.specs.declared.asking.Asking.{Asking}
+use Rattle.regions.specs.declared.regions.PointRegion.{PointRegion}
+use Rattle.job_charts.specs.ChartScope.{IsAskedRegion}
+use Rattle.job_charts.specs.declared.asking.ChartScope.{ChartScope}
 use Rattle.job_charts.specs.declared.compare.CompareWords.{CompareWords}
 use Rattle.job_charts.specs.declared.compare.NoPair.{NoPair}
 use Rattle.job_charts.specs.declared.compare.NoPair.TheVariants.{BadTable, Ended}
 
 -- ---- where tables differ, of the commands of a region
 
-module _ (asked : Region) where
+module _ (asked : PointRegion) where
   -- two tables of a port decide the command of a point differently
   abbrev pub HaveDifference : (one other : List Rule) → Type 0
   HaveDifference one other = (point : Point) × IsDifferenceIn asked one other point
@@ -71,46 +71,46 @@ module _ (asked : Region) where
 -- ---- what is printed
 
 -- these rows of a comparison of two tables were printed
-pub record TellsRows (asked : Region) (port : Option ℕ) (one other : PolicyValue) (old new : Option (List ℕ)) : Type 0 where
+pub record PrintsRows (asked : PointRegion) (port : Option ℕ) (one other : PolicyValue) (old new : Option (List ℕ)) : Type 0 where
   pub rows : List RowValue
   pub are_rows : AreDifferenceRows asked port one other rows
   pub text : List ℕ
   pub printed : Appends old new text
 
 -- two tables differ in a command that is asked of, and where they do was printed
-pub record TellsDifferent (asking : Asking) (one other : PolicyValue) (old new : Option (List ℕ)) : Type 0 where
-  pub region : Region
+pub record PrintsDifferent (asking : ChartScope) (one other : PolicyValue) (old new : Option (List ℕ)) : Type 0 where
+  pub region : PointRegion
   pub is_asked : IsAskedRegion asking region
   pub differ : DifferFor region asking.port one other
-  pub told : TellsRows region asking.port one other old new
+  pub reported : PrintsRows region asking.port one other old new
 
 -- two tables decide all commands alike that are asked of, which was printed
-pub record TellsSame (asking : Asking) (one other : PolicyValue) (old new : Option (List ℕ)) : Type 0 where
-  pub region : Region
+pub record PrintsSame (asking : ChartScope) (one other : PolicyValue) (old new : Option (List ℕ)) : Type 0 where
+  pub region : PointRegion
   pub is_asked : IsAskedRegion asking region
   pub same : AreSameFor region asking.port one other
   pub line : Appends old new (codes "same" ++ 10 ∷ [])
 
 -- what is printed of two tables, by the exit status
-abbrev pub TellsTables : Asking → (one other : PolicyValue) → (old new : Option (List ℕ)) → Status → Type 0
-TellsTables asking one other old new Done = TellsSame asking one other old new
-TellsTables asking one other old new Failed = TellsDifferent asking one other old new
-TellsTables asking one other old new Misused = ⊥
+abbrev pub PrintsTables : ChartScope → (one other : PolicyValue) → (old new : Option (List ℕ)) → ExitStatus → Type 0
+PrintsTables asking one other old new Done = PrintsSame asking one other old new
+PrintsTables asking one other old new Failed = PrintsDifferent asking one other old new
+PrintsTables asking one other old new Misused = ⊥
 
 -- why there is no table in the file of this name: it cannot be read, or the table has a fault. With that fault the
 -- file's name is reported
-abbrev pub IsNoNamed : {S : Type 0} → (reads : Reads S) → (name : List ℕ) → Maps → (before after : S) → NoPair → Type 0
+abbrev pub IsNoNamed : {S : Type 0} → (reads : ReadsFile S) → (name : List ℕ) → Maps → (before after : S) → NoPair → Type 0
 IsNoNamed reads name sizes before after (Ended fault) = TextUnread reads before name after fault
 IsNoNamed reads name sizes before after (BadTable own fault) =
     (own.now ≡ name) × HoldsBadDrawn reads before name sizes fault after
 
-module _ {S : Type 0} (reads : Reads S) (words : CompareWords) where
+module _ {S : Type 0} (reads : ReadsFile S) (words : CompareWords) where
   -- the file of the old table has a table whose lines have no fault for these maps
   abbrev pub HoldsOld : (before : S) → PolicyValue → (after : S) → Type 0
   HoldsOld before policy after = HoldsDrawn reads before (string_bytes words.old) words.sizes policy after
 
   -- the files were read in this order, and have such tables
-  pub record AreTables (before : S) (one other : PolicyValue) (after : S) : Type 0 where
+  pub record AreFileTables (before : S) (one other : PolicyValue) (after : S) : Type 0 where
     pub between : S
     pub first : HoldsOld before one between
     pub second : HoldsDrawn reads between (string_bytes words.new) words.sizes other after
@@ -130,49 +130,49 @@ module _ {S : Type 0} (reads : Reads S) (words : CompareWords) where
     pub held : HoldsBadDrawn reads between (string_bytes words.new) words.sizes fault after
 
   -- a file cannot be read
-  abbrev pub IsUnread : (before after : S) → Fault → Type 0
-  IsUnread before after fault =
+  abbrev pub AreTablesUnread : (before after : S) → Fault → Type 0
+  AreTablesUnread before after fault =
       TextUnread reads before (string_bytes words.old) after fault ⊎ NewUnread before after fault
 
   -- the table in the file of this name has this first fault
-  abbrev pub IsBad : (before after : S) → (name : List ℕ) → TextFault → Type 0
-  IsBad before after name fault =
+  abbrev pub IsComparedBadTable : (before after : S) → (name : List ℕ) → TextFault → Type 0
+  IsComparedBadTable before after name fault =
       ((name ≡ string_bytes words.old) × HoldsBadDrawn reads before (string_bytes words.old) words.sizes fault after)
       ⊎ ((name ≡ string_bytes words.new) × NewIsBad before after fault)
 
   -- why there are no two tables
   abbrev pub IsNoPair : (before after : S) → NoPair → Type 0
-  IsNoPair before after (Ended fault) = IsUnread before after fault
-  IsNoPair before after (BadTable name fault) = IsBad before after name.now fault
+  IsNoPair before after (Ended fault) = AreTablesUnread before after fault
+  IsNoPair before after (BadTable name fault) = IsComparedBadTable before after name.now fault
 
   -- two tables were read, and what is to be said of them was printed
-  pub record ComparesTables (before after : S) (old new : Option (List ℕ)) (status : Status) : Type 0 where
+  pub record ComparesTables (before after : S) (old new : Option (List ℕ)) (status : ExitStatus) : Type 0 where
     pub one : PolicyValue
     pub other : PolicyValue
-    pub tables : AreTables before one other after
-    pub told : TellsTables words.asking one other old new status
+    pub tables : AreFileTables before one other after
+    pub reported : PrintsTables words.asking one other old new status
 
   -- a table has a fault, which was printed with the name of its file and its place
-  pub record TellsBad (before after : S) (old new : Option (List ℕ)) (status : Status) : Type 0 where
+  pub record PrintsBadTable (before after : S) (old new : Option (List ℕ)) (status : ExitStatus) : Type 0 where
     pub name : List ℕ
     pub fault : TextFault
-    pub bad : IsBad before after name fault
-    pub told : TellsNamedFault name fault old new
+    pub bad : IsComparedBadTable before after name fault
+    pub reported : PrintsNamedFault name fault old new
     pub failed : status ≡ Failed
 
   -- what `compare` reads and prints if no fault ends it, with its exit status. It is 0 if both tables decide all
   -- commands alike, and 1 if they do not, or if one has a fault
-  abbrev pub ComparesFile : (before after : S) → (old new : Option (List ℕ)) → Status → Type 0
+  abbrev pub ComparesFile : (before after : S) → (old new : Option (List ℕ)) → ExitStatus → Type 0
   ComparesFile before after old new status =
-      ComparesTables before after old new status ⊎ TellsBad before after old new status
+      ComparesTables before after old new status ⊎ PrintsBadTable before after old new status
 
   -- memory was refused after the reads
-  pub record LacksMemory (before after : S) (fault : Fault) : Type 0 where
+  pub record LacksChartMemory (before after : S) (fault : Fault) : Type 0 where
     pub one : PolicyValue
     pub other : PolicyValue
-    pub tables : AreTables before one other after
+    pub tables : AreFileTables before one other after
     pub is_fault : fault ≡ NoMemory
 
   -- a file cannot be read, or memory was refused after the reads; nothing was printed
   abbrev pub IsNotCompared : (before after : S) → Fault → Type 0
-  IsNotCompared before after fault = IsUnread before after fault ⊎ LacksMemory before after fault
+  IsNotCompared before after fault = AreTablesUnread before after fault ⊎ LacksChartMemory before after fault

@@ -1,4 +1,4 @@
-pub mod Asking
+pub mod ChartScope
 pub mod CompareJob
 pub mod ComparedFile
 pub mod MapJob

@@ -2,12 +2,12 @@
 use Rattle.std.specs.Prelude.{◌≡◌, ◌⊎◌, ℕ, Option, List, Some, None, codes, string_bytes}
 use Rattle.clap.specs.Walk.{Row, first_of}
 use Rattle.clap.specs.Simple.{App, new_app, with_rule}
-use Rattle.job_parts.specs.Arguments.{file_rule, flag_rule, is_set, option_rule}
+use Rattle.job_parts.specs.Arguments.{file_rule, flag_rule, is_flag_set, option_rule}
 use Rattle.job_packets.specs.HexWords.{Has}
 use Rattle.job_parts.specs.Options.{GivesSizes, IsBadList, IsNumberWithin, WritesSuch}
 use Rattle.job_parts.specs.declared.usage.UsageFault.{UsageFault}
 use Rattle.job_parts.specs.declared.usage.UsageFault.TheVariants.{Parse, BadOption, Memory}
-use Rattle.job_charts.specs.Asking.{GivesAsking, SpoilsAsking, with_asking}
+use Rattle.job_charts.specs.ChartScope.{GivesAsking, SpoilsAsking, with_asking}
 use Rattle.job_charts.specs.declared.map.MapWords.{MapWords}
 
 -- `map TABLE [--maps LIST] [--markdown] [--quiet] [--lines N]`, and after it the options of the commands that are asked of
@@ -31,8 +31,8 @@ GivesLines (Some word) lines = WritesSuch IsLineCount word lines
 -- the words are those of map with these matches
 abbrev pub NamesMap : List Row → MapWords → Type 0
 NamesMap rows words = (first_of (codes "table") rows ≡ Some (string_bytes words.table))
-    × GivesSizes (first_of (codes "maps") rows) words.sizes × (words.markdown ≡ is_set (codes "markdown") rows)
-    × (words.is_quiet ≡ is_set (codes "quiet") rows) × GivesLines (first_of (codes "lines") rows) words.lines
+    × GivesSizes (first_of (codes "maps") rows) words.sizes × (words.markdown ≡ is_flag_set (codes "markdown") rows)
+    × (words.is_quiet ≡ is_flag_set (codes "quiet") rows) × GivesLines (first_of (codes "lines") rows) words.lines
     × GivesAsking rows words.asking
 
 -- matches without the file, or with a list of maps or a number of lines that is none. Or they do not say which commands

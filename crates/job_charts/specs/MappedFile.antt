@@ -3,20 +3,20 @@ use Rattle.std.specs.Prelude.{◌≡◌, ◌⊎◌, ◌&&◌, ◌-◌, nat_le, i
 use Rattle.std.specs.Io.KnownBytes.{Appends}
 use Rattle.policy_table.specs.Policies.{PolicyValue}
 use Rattle.policy_table.specs.declared.text_faults.TextFault.{TextFault}
-use Rattle.job_decide.specs.Tables.{HoldsBadDrawn, HoldsText, TellsTableFault}
-use Rattle.job_parts.specs.Files.{Reads}
+use Rattle.job_decide.specs.Tables.{HoldsBadDrawn, HoldsTableText, PrintsTableFault}
+use Rattle.job_parts.specs.Files.{ReadsFile}
 use Rattle.job_parts.specs.Reading.{TextUnread}
 use Rattle.job_parts.specs.declared.faults.Fault.{Fault}
 use Rattle.job_parts.specs.declared.faults.Fault.TheVariants.{NoMemory}
-use Rattle.job_parts.specs.declared.status.Status.{Status}
-use Rattle.job_parts.specs.declared.status.Status.TheVariants.{Done, Failed, Misused}
+use Rattle.job_parts.specs.declared.status.ExitStatus.{ExitStatus}
+use Rattle.job_parts.specs.declared.status.ExitStatus.TheVariants.{Done, Failed, Misused}
 use Rattle.chart_lines.specs.Mapped.{AreMapRows}
 use Rattle.chart_lines.specs.Never.{AreNotes}
 use Rattle.chart_lines.specs.Rows.{RowValue}
 use Rattle.chart_lines.specs.declared.never.Note.{Note}
-use Rattle.regions.specs.declared.regions.Region.{Region}
-use Rattle.job_charts.specs.Asking.{IsAskedRegion, is_all}
-use Rattle.job_charts.specs.declared.asking.Asking.{Asking}
+use Rattle.regions.specs.declared.regions.PointRegion.{PointRegion}
+use Rattle.job_charts.specs.ChartScope.{IsAskedRegion, is_all}
+use Rattle.job_charts.specs.declared.asking.ChartScope.{ChartScope}
 use Rattle.job_charts.specs.declared.map.MapWords.{MapWords}
 
 -- the rules of a table that never match, if they are wanted, and else none
@@ -29,14 +29,14 @@ abbrev pub fits : (rows notes most : ℕ) → Bool
 fits rows notes most = nat_le rows most && nat_le notes (most - rows)
 
 -- the status of a job whose map was printed: 0 if it was printed to its end, and else 1
-abbrev pub map_status : (is_whole : Bool) → Status
+abbrev pub map_status : (is_whole : Bool) → ExitStatus
 map_status is_whole = if is_whole then Done else Failed
 
 -- what a table decides of the commands that are asked of was printed, at most `most` lines of it. They are the first of
 -- the rows of a map of it. If all commands are asked of and there are no more rows, the first of the rules that never
 -- match follow
-pub record TellsMap (asking : Asking) (most : ℕ) (policy : PolicyValue) (old new : Option (List ℕ)) (status : Status) : Type 0 where
-  pub region : Region
+pub record PrintsMap (asking : ChartScope) (most : ℕ) (policy : PolicyValue) (old new : Option (List ℕ)) (status : ExitStatus) : Type 0 where
+  pub region : PointRegion
   pub is_asked : IsAskedRegion asking region
   pub rows : List RowValue
   pub are_rows : AreMapRows region asking.port policy rows
@@ -50,39 +50,39 @@ pub record TellsMap (asking : Asking) (most : ℕ) (policy : PolicyValue) (old n
   pub printed : Appends old new text
   pub ends : status ≡ map_status (fits (length rows) (length notes) most)
 
-module _ {S : Type 0} (reads : Reads S) (words : MapWords) where
+module _ {S : Type 0} (reads : ReadsFile S) (words : MapWords) where
   -- the file has this text, which is a table whose lines have no fault for these maps
-  abbrev pub IsGiven : (before : S) → (written : List ℕ) → PolicyValue → (after : S) → Type 0
-  IsGiven before written policy after = HoldsText reads before (string_bytes words.table) words.sizes written policy after
+  abbrev pub IsTableGiven : (before : S) → (written : List ℕ) → PolicyValue → (after : S) → Type 0
+  IsTableGiven before written policy after = HoldsTableText reads before (string_bytes words.table) words.sizes written policy after
 
   -- what the table decides was printed
-  pub record MapsTable (before after : S) (old new : Option (List ℕ)) (status : Status) : Type 0 where
+  pub record MapsTable (before after : S) (old new : Option (List ℕ)) (status : ExitStatus) : Type 0 where
     pub written : List ℕ
     pub policy : PolicyValue
-    pub given : IsGiven before written policy after
-    pub told : TellsMap words.asking words.lines policy old new status
+    pub given : IsTableGiven before written policy after
+    pub reported : PrintsMap words.asking words.lines policy old new status
 
   -- the table has a fault, which was printed with its place
-  pub record TellsTable (before after : S) (old new : Option (List ℕ)) : Type 0 where
+  pub record PrintsMapFault (before after : S) (old new : Option (List ℕ)) : Type 0 where
     pub fault : TextFault
     pub held : HoldsBadDrawn reads before (string_bytes words.table) words.sizes fault after
-    pub told : TellsTableFault fault old new
+    pub reported : PrintsTableFault fault old new
 
   -- what `map` reads and prints if no fault ends it, by its exit status. It is 0 if the map was printed to its end. It
   -- is 1 if the map has more lines than are to be printed at most, or if the table has a fault
-  abbrev pub MapsFile : (before after : S) → (old new : Option (List ℕ)) → Status → Type 0
+  abbrev pub MapsFile : (before after : S) → (old new : Option (List ℕ)) → ExitStatus → Type 0
   MapsFile before after old new Done = MapsTable before after old new Done
-  MapsFile before after old new Failed = MapsTable before after old new Failed ⊎ TellsTable before after old new
+  MapsFile before after old new Failed = MapsTable before after old new Failed ⊎ PrintsMapFault before after old new
   MapsFile before after old new Misused = ⊥
 
   -- memory was refused after the read
-  pub record LacksMemory (before after : S) (fault : Fault) : Type 0 where
+  pub record LacksChartMemory (before after : S) (fault : Fault) : Type 0 where
     pub written : List ℕ
     pub policy : PolicyValue
-    pub given : IsGiven before written policy after
+    pub given : IsTableGiven before written policy after
     pub is_fault : fault ≡ NoMemory
 
   -- the file cannot be read, or memory was refused after the read; nothing was printed
   abbrev pub IsNotMapped : (before after : S) → Fault → Type 0
   IsNotMapped before after fault =
-      TextUnread reads before (string_bytes words.table) after fault ⊎ LacksMemory before after fault
+      TextUnread reads before (string_bytes words.table) after fault ⊎ LacksChartMemory before after fault

@@ -9,7 +9,7 @@ use Rattle.rmap.specs.Windows.{WindowsValue}
 use Rattle.rmap.specs.declared.boot.TheConstants.{BOOT_WINDOW, LOAD_REGISTER, LOAD_RESULT_SIZE, STAGING_SIZE}
 use Rattle.rmap.specs.declared.verdict.Verdict.TheVariants.{Authorised}
 use Rattle.charts.specs.Meetings.{Meet, NeverMeet}
-use Rattle.chart_lines.specs.Telling.{TellsFirst}
+use Rattle.chart_lines.specs.Reporting.{PrintsFirst}
 use Rattle.job_charts.specs.declared.missed.Missed.{Missed}
 use Rattle.job_charts.specs.declared.missed.Missed.TheVariants.{Port, Bank, Range}
 
@@ -43,7 +43,7 @@ boot_rules =
 -- a rule of all commands to each place of a node: to its banks, and to the boot window
 pub record ArePlaces (windows : WindowsValue) (places : List Rule) : Type 0 where
   pub banks : List Rule
-  pub are : TellsFirst (AddsBank windows) 8 [] banks
+  pub are : PrintsFirst (AddsBank windows) 8 [] banks
   pub is : places ≡ banks ++ boot_rules
 
 -- the rule after this many places holds at a command of one of them

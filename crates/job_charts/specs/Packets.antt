@@ -14,12 +14,12 @@ use Rattle.initiator.specs.Writing.{command_with}
 use Rattle.initiator.specs.declared.write.CommandFields.{CommandFields}
 use Rattle.regions.specs.Points.{HasCommand}
 use Rattle.regions.specs.declared.points.Point.{Point}
-use Rattle.charts.specs.Points.{point_of}
+use Rattle.charts.specs.Points.{header_point_of}
 use Rattle.charts.specs.Witness.{instruction_for, length_for}
 
 -- how many bytes of data the command of a point has: as many as lie from its first address to its last
-abbrev pub count_at : Point → ℕ
-count_at p = length_for p.kind (p.last - p.first + 1)
+abbrev pub data_count_at : Point → ℕ
+data_count_at p = length_for p.kind (p.last - p.first + 1)
 
 -- the fields of the command of a point, for a target of this address
 abbrev pub fields_at : (target : ℕ) → Point → CommandFields
@@ -32,7 +32,7 @@ fields_at target p = record {
   transaction = 0;
   extended = p.extended;
   address = p.first;
-  length = count_at p;
+  length = data_count_at p;
 }
 
 -- the bytes after the header of a command of a kind with this many bytes of data: zeros and their CRC, if it carries
@@ -45,7 +45,7 @@ body_for Unused count = []
 
 -- the command of a point
 abbrev pub command_at : (target : ℕ) → Point → CommandValue
-command_at target p = command_with (fields_at target p) (body_for p.kind (count_at p))
+command_at target p = command_with (fields_at target p) (body_for p.kind (data_count_at p))
 
 -- its packet
 unfoldable pub packet_at : (target : ℕ) → Point → Cargo
@@ -64,4 +64,4 @@ is_brought windows p = is_brought_by windows (discard_of p.bytes) p
 abbrev pub PacketsHavePoints : Type 0
 PacketsHavePoints =
     (target : ℕ) (p : Point) → target < 256 → HasCommand p
-    → IsHeader (command_at target p) × (point_of (header (command_at target p).front (command_at target p).tail) ≡ p)
+    → IsHeader (command_at target p) × (header_point_of (header (command_at target p).front (command_at target p).tail) ≡ p)

@@ -6,14 +6,14 @@ ghost use Rattle.clap.specs.declared.builder.command.Command.TheViews.{out-Comma
 ghost use Rattle.clap.specs.Walk.{first_of, rows_of};
 ghost use Rattle.clap.specs.Matches.{found_of};
 ghost use Rattle.job_packets.specs.HexWords.{Has};
-ghost use Rattle.job_parts.specs.Options.{IsBadValue, IsValueFault};
+ghost use Rattle.job_parts.specs.Options.{IsBadValue, IsOptionFault};
 ghost use Rattle.policy_table.specs.Fields.{IsKind};
 ghost use Rattle.policy_table.specs.declared.rules.RuleKind.{RuleKind};
 ghost use Rattle.regions.specs.Points.{HasCommand};
 ghost use Rattle.regions.specs.Regions.{lies_in};
 ghost use Rattle.regions.specs.declared.points.Point.{Point};
 ghost use Rattle.charts.specs.Points.{holds_at};
-ghost use Rattle.job_charts.specs.Asking.{AreAddresses, GivesAddresses, GivesAsking, GivesByte, GivesKind, GivesOwnPort, HasAddresses, dash_parts, is_all, with_asking};
+ghost use Rattle.job_charts.specs.ChartScope.{AreAddresses, GivesAddresses, GivesAsking, GivesByte, GivesKind, GivesOwnPort, HasAddresses, dash_parts, is_all, with_asking};
 
 use charts::region_of;
 use clap::{ArgMatches, Command};
@@ -21,21 +21,21 @@ use job_packets::hex_words::hex_written;
 use job_parts::arguments::{option, text_of};
 use job_parts::usage::UsageFault;
 use policy_table::{Rule, RuleKind};
-use regions::Region;
+use regions::PointRegion;
 use rmap::Verdict;
 use spw::read_port;
 use std::alloc::{AllocError, Global};
 
 /// The commands of which a chart is asked.
 #[derive(Clone, Copy, Debug)]
-pub struct Asking {
+pub struct ChartScope {
     /// A rule whose words they meet. Its quota and its verdict say nothing.
     pub rule: Rule,
     /// The port at which they come in; each without it.
     pub port: Option<u8>,
 }
 
-impl Asking {
+impl ChartScope {
     /// Whether all commands are asked of.
     pub fn is_all(&self) -> bool
         ensures { result ≡ is_all self.now }
@@ -51,7 +51,7 @@ impl Asking {
     }
 
     /// The points of these commands.
-    pub fn region(&self) -> Region
+    pub fn region(&self) -> PointRegion
         ensures { (p : Point) → HasCommand p → lies_in result p ≡ holds_at self.now.rule p }
     {
         region_of(&self.rule)
@@ -163,7 +163,7 @@ fn addresses_written(parts: &[&str]) -> Option<(u32, u32)>
 fn addresses_of(alloc: Global, found: &ArgMatches) -> Result<(u32, u32), UsageFault>
     ensures ok { IfOk result (λ both.
         GivesAddresses (first_of (codes "address") (rows_of (found_of found.now))) both.0 both.1) }
-    ensures err { IfErr result (IsValueFault (Has (λ (both : ℕ × ℕ).
+    ensures err { IfErr result (IsOptionFault (Has (λ (both : ℕ × ℕ).
         GivesAddresses (first_of (codes "address") (rows_of (found_of found.now))) both.0 both.1))) }
 {
     let Some(word) = text_of(found, "address") else {
@@ -196,9 +196,9 @@ fn port_of(found: &ArgMatches) -> Result<Option<u8>, UsageFault>
 /// # Errors
 ///
 /// `BadOption` if the value of an option is none of that option, or `Memory` if memory is refused.
-pub fn asking_of(alloc: Global, found: &ArgMatches) -> Result<Asking, UsageFault>
+pub fn asking_of(alloc: Global, found: &ArgMatches) -> Result<ChartScope, UsageFault>
     ensures ok { IfOk result (GivesAsking (rows_of (found_of found.now))) }
-    ensures err { IfErr result (IsValueFault (Has (GivesAsking (rows_of (found_of found.now))))) }
+    ensures err { IfErr result (IsOptionFault (Has (GivesAsking (rows_of (found_of found.now))))) }
 {
     let kind = kind_of(found)?;
     let key = byte_of(found, "key")?;
@@ -216,5 +216,5 @@ pub fn asking_of(alloc: Global, found: &ArgMatches) -> Result<Asking, UsageFault
         quota: None,
         verdict: Verdict::Authorised,
     };
-    Ok(Asking { rule, port })
+    Ok(ChartScope { rule, port })
 }

@@ -8,34 +8,34 @@ ghost use Rattle.clap.specs.Matches.{found_of};
 ghost use Rattle.job_parts.specs.Stops.{StopsBy};
 ghost use Rattle.charts.specs.Same.{AreSame};
 ghost use Rattle.job_charts.specs.CompareJob.{NamesCompare, RefusesCompare, compare_app};
-ghost use Rattle.job_charts.specs.ComparedFile.{AreTables, AreSameAt, AreSameAtAll, AreSameFor, AreSameIfCharted, ComparesFile, DifferAt, DifferFor, DifferSomewhere, HaveDifference, HaveDifferenceAt, IsNoNamed, IsNoPair, IsNotCompared, TellsRows, TellsTables};
+ghost use Rattle.job_charts.specs.ComparedFile.{AreFileTables, AreSameAt, AreSameAtAll, AreSameFor, AreSameIfCharted, ComparesFile, DifferAt, DifferFor, DifferSomewhere, HaveDifference, HaveDifferenceAt, IsNoNamed, IsNoPair, IsNotCompared, PrintsRows, PrintsTables};
 ghost use Rattle.job_parts.specs.Inputs.{AreInputs, input};
 ghost use Rattle.job_parts.specs.declared.inputs.Content.TheVariants.{Table};
 ghost use Rattle.job_decide.specs.Tables.{HoldsDrawn};
 ghost use Rattle.job_parts.specs.declared.faults.Fault.TheVariants.{NoMemory};
 
-use crate::asking::{Asking, asking_arguments, asking_of};
+use crate::asking::{ChartScope, asking_arguments, asking_of};
 use crate::places::places;
 use crate::{markdown, plain};
-use chart_lines::{Asked, PORTS, Row, Tables, difference_rows};
+use chart_lines::{AskedRules, PORTS, ChartRow, Tables, difference_rows};
 use charts::first_difference;
 use clap::{ArgMatches, Command};
 use job_decide::node_windows::own_windows;
 use job_decide::tables::{NoTable, drawn_in};
-use job_parts::arguments::{file, flag, is_set, name_of};
+use job_parts::arguments::{file, flag, is_flag_set, name_of};
 use job_parts::faults::Fault;
 use job_parts::inputs::{Content, InputFile, Inputs};
 use job_parts::options::{maps_option, sizes_of};
 use job_parts::printing::print_text;
-use job_parts::status::Status;
-use job_parts::stops::Halt;
+use job_parts::status::ExitStatus;
+use job_parts::stops::JobStop;
 use job_parts::storage::Files;
 use job_parts::two_files::{are_one_input, print_named_fault};
 use job_parts::usage::UsageFault;
 use machine::MapSizes;
 use policy::{Policy, TextFault};
 use policy_table::unnamed_ports_are_alike;
-use regions::Region;
+use regions::PointRegion;
 use rmap::Windows;
 use std::alloc::{AllocError, Global};
 use std::io::{self, Write};
@@ -54,7 +54,7 @@ pub struct CompareWords {
     /// The address of the node of the packets, and where its banks lie.
     pub windows: Windows,
     /// The commands that are asked of.
-    pub asking: Asking,
+    pub asking: ChartScope,
 }
 
 impl CompareWords {
@@ -112,7 +112,7 @@ pub fn compare_job(alloc: Global, found: &ArgMatches) -> Result<CompareWords, Us
         return Err(UsageFault::BadOption);
     }
     let sizes = sizes_of(alloc, found)?;
-    let markdown = is_set(found, "markdown");
+    let markdown = is_flag_set(found, "markdown");
     let asking = asking_of(alloc, found)?;
     Ok(CompareWords {
         old,
@@ -159,7 +159,7 @@ fn tables<'a, F: Files>(
     files: &mut F,
 ) -> Result<(Policy, Policy), NoPair<'a>>
     ensures tables { IfOk result (λ made.
-        AreTables F.reads words.now files.old made.0 made.1 files.new) }
+        AreFileTables F.reads words.now files.old made.0 made.1 files.new) }
     ensures none { IfErr result (IsNoPair F.reads words.now files.old files.new) }
 {
     let old = named_table(alloc, files, words.old.as_str(), &words.sizes)?;
@@ -168,7 +168,7 @@ fn tables<'a, F: Files>(
 }
 
 /// Whether two tables decide a command differently, by what they ask at a port.
-fn are_apart(asked: &Region, old: &Asked, new: &Asked) -> bool
+fn are_apart(asked: &PointRegion, old: &AskedRules, new: &AskedRules) -> bool
     ensures { MatchBool result (HaveDifference asked.now old.now.rules new.now.rules)
         (AreSame asked.now old.now.rules new.now.rules) }
 {
@@ -181,7 +181,7 @@ fn are_apart(asked: &Region, old: &Asked, new: &Asked) -> bool
 /// Whether two tables decide a command differently at a port.
 fn differ_there(
     alloc: Global,
-    asked: &Region,
+    asked: &PointRegion,
     old: &Policy,
     new: &Policy,
     port: u8,
@@ -189,15 +189,15 @@ fn differ_there(
     ensures { IfOk result (λ differ. MatchBool differ
         (HaveDifferenceAt asked.now old.now new.now port) (AreSameAt asked.now old.now new.now port)) }
 {
-    let old = Asked::at(alloc, old, port)?;
-    let new = Asked::at(alloc, new, port)?;
+    let old = AskedRules::at(alloc, old, port)?;
+    let new = AskedRules::at(alloc, new, port)?;
     Ok(are_apart(asked, &old, &new))
 }
 
 /// Whether two tables decide a command differently at a port of which a chart is made.
 fn differ_at(
     alloc: Global,
-    asked: &Region,
+    asked: &PointRegion,
     old: &Policy,
     new: &Policy,
     port: u8,
@@ -215,7 +215,7 @@ fn differ_at(
 /// Whether two tables decide a command differently at some port.
 fn differ_somewhere(
     alloc: Global,
-    asked: &Region,
+    asked: &PointRegion,
     old: &Policy,
     new: &Policy,
 ) -> Result<bool, AllocError>
@@ -234,7 +234,7 @@ fn differ_somewhere(
 /// Whether two tables decide a command differently that is asked of.
 fn differ(
     alloc: Global,
-    asked: &Region,
+    asked: &PointRegion,
     port: Option<u8>,
     old: &Policy,
     new: &Policy,
@@ -249,7 +249,7 @@ fn differ(
 }
 
 /// The lines of the rows of a comparison, with packets for a node with these windows.
-fn plain_text(alloc: Global, windows: &Windows, rows: &[Row]) -> Result<String, AllocError> {
+fn plain_text(alloc: Global, windows: &Windows, rows: &[ChartRow]) -> Result<String, AllocError> {
     let mut text = String::new(alloc);
     for row in rows {
         plain::add_difference(&mut text, alloc, windows, row)?;
@@ -258,7 +258,7 @@ fn plain_text(alloc: Global, windows: &Windows, rows: &[Row]) -> Result<String, 
 }
 
 /// A table of these rows in markdown.
-fn markdown_text(alloc: Global, windows: &Windows, rows: &[Row]) -> Result<String, AllocError> {
+fn markdown_text(alloc: Global, windows: &Windows, rows: &[ChartRow]) -> Result<String, AllocError> {
     let mut text = String::from_str(alloc, markdown::COMPARISON_HEAD)?;
     for row in rows {
         markdown::add_difference(&mut text, alloc, windows, row)?;
@@ -270,13 +270,13 @@ fn markdown_text(alloc: Global, windows: &Windows, rows: &[Row]) -> Result<Strin
 fn print_rows<'a, W: Write>(
     alloc: Global,
     words: &CompareWords,
-    asked: &Region,
+    asked: &PointRegion,
     old: &Policy,
     new: &Policy,
     out: &mut W,
-) -> Result<(), Halt<'a>>
+) -> Result<(), JobStop<'a>>
     ensures done { OnOk result
-        (TellsRows asked.now words.now.asking.port old.now new.now (W.contents out.old) (W.contents out.new)) }
+        (PrintsRows asked.now words.now.asking.port old.now new.now (W.contents out.old) (W.contents out.new)) }
     ensures stops { IfErr result (StopsBy (λ fault. fault ≡ NoMemory)) }
     ensures quiet { IfErr result (StopsBy (λ _. W.contents out.new ≡ W.contents out.old)) }
 {
@@ -298,19 +298,19 @@ fn print_comparison<'a, W: Write>(
     old: &Policy,
     new: &Policy,
     out: &mut W,
-) -> Result<Status, Halt<'a>>
+) -> Result<ExitStatus, JobStop<'a>>
     ensures done { IfOk result
-        (TellsTables words.now.asking old.now new.now (W.contents out.old) (W.contents out.new)) }
+        (PrintsTables words.now.asking old.now new.now (W.contents out.old) (W.contents out.new)) }
     ensures stops { IfErr result (StopsBy (λ fault. fault ≡ NoMemory)) }
     ensures quiet { IfErr result (StopsBy (λ _. W.contents out.new ≡ W.contents out.old)) }
 {
     let asked = words.asking.region();
     if !differ(alloc, &asked, words.asking.port, old, new)? {
         writeln!(out, "same")?;
-        return Ok(Status::Done);
+        return Ok(ExitStatus::Done);
     }
     print_rows(alloc, words, &asked, old, new, out)?;
-    Ok(Status::Failed)
+    Ok(ExitStatus::Failed)
 }
 
 /// Prints `same` if the tables of two files decide all commands alike at each port, and else where they differ. With
@@ -328,7 +328,7 @@ pub fn compare_file<'a, F: Files, W: Write>(
     words: &'a CompareWords,
     files: &mut F,
     out: &mut W,
-) -> Result<Status, Halt<'a>>
+) -> Result<ExitStatus, JobStop<'a>>
     ensures done { IfOk result (ComparesFile F.reads words.now files.old files.new
         (W.contents out.old) (W.contents out.new)) }
     ensures stops { IfErr result (StopsBy (IsNotCompared F.reads words.now files.old files.new)) }
@@ -336,10 +336,10 @@ pub fn compare_file<'a, F: Files, W: Write>(
 {
     match tables(alloc, words, files) {
         Ok((old, new)) => print_comparison(alloc, words, &old, &new, out),
-        Err(NoPair::Ended(fault)) => Err(Halt::Ended(fault)),
+        Err(NoPair::Ended(fault)) => Err(JobStop::Ended(fault)),
         Err(NoPair::BadTable(name, fault)) => {
             print_named_fault(out, name, &fault)?;
-            Ok(Status::Failed)
+            Ok(ExitStatus::Failed)
         }
     }
 }

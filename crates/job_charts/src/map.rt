@@ -8,24 +8,24 @@ ghost use Rattle.clap.specs.Matches.{found_of};
 ghost use Rattle.job_parts.specs.Inputs.{AreInputs, input};
 ghost use Rattle.job_parts.specs.declared.inputs.Content.TheVariants.{Table};
 ghost use Rattle.job_parts.specs.Stops.{StopsBy};
-ghost use Rattle.job_charts.specs.Asking.{is_all};
+ghost use Rattle.job_charts.specs.ChartScope.{is_all};
 ghost use Rattle.job_charts.specs.MapJob.{GivesLines, IsLineCount, NamesMap, RefusesMap, map_app};
-ghost use Rattle.job_charts.specs.MappedFile.{IsNotMapped, MapsFile, NotesFor, TellsMap, fits, map_status};
+ghost use Rattle.job_charts.specs.MappedFile.{IsNotMapped, MapsFile, NotesFor, PrintsMap, fits, map_status};
 ghost use Rattle.job_packets.specs.HexWords.{Has};
 ghost use Rattle.job_parts.specs.Options.{IsBadValue, WritesSuch};
 ghost use Rattle.job_parts.specs.declared.faults.Fault.TheVariants.{NoMemory};
 
-use crate::asking::{Asking, asking_arguments, asking_of};
+use crate::asking::{ChartScope, asking_arguments, asking_of};
 use crate::{markdown, notes, plain};
-use chart_lines::{Note, Row, map_rows, never_matching};
+use chart_lines::{Note, ChartRow, map_rows, never_matching};
 use clap::{ArgMatches, Command};
 use job_decide::tables::{NoTable, print_table_fault, text_and_table};
-use job_parts::arguments::{file, flag, is_set, name_of, option, text_of};
+use job_parts::arguments::{file, flag, is_flag_set, name_of, option, text_of};
 use job_parts::inputs::{Content, Inputs};
 use job_parts::options::{maps_option, sizes_of};
 use job_parts::printing::print_text;
-use job_parts::status::Status;
-use job_parts::stops::Halt;
+use job_parts::status::ExitStatus;
+use job_parts::stops::JobStop;
 use job_parts::storage::Files;
 use job_parts::usage::UsageFault;
 use machine::MapSizes;
@@ -50,7 +50,7 @@ pub struct MapWords {
     /// How many lines are printed at most: 1 to 4,294,967,295.
     pub lines: u32,
     /// The commands that are asked of.
-    pub asking: Asking,
+    pub asking: ChartScope,
 }
 
 impl MapWords {
@@ -135,8 +135,8 @@ pub fn map_job(alloc: Global, found: &ArgMatches) -> Result<MapWords, UsageFault
 {
     let table = name_of(alloc, found, "table")?;
     let sizes = sizes_of(alloc, found)?;
-    let markdown = is_set(found, "markdown");
-    let is_quiet = is_set(found, "quiet");
+    let markdown = is_flag_set(found, "markdown");
+    let is_quiet = is_flag_set(found, "quiet");
     let lines = lines_wanted(found)?;
     let asking = asking_of(alloc, found)?;
     Ok(MapWords {
@@ -150,7 +150,7 @@ pub fn map_job(alloc: Global, found: &ArgMatches) -> Result<MapWords, UsageFault
 }
 
 /// The lines of a map: those of its rows, and after them one for each rule that never matches.
-fn plain_text(alloc: Global, rows: &[Row], never: &[Note]) -> Result<String, AllocError> {
+fn plain_text(alloc: Global, rows: &[ChartRow], never: &[Note]) -> Result<String, AllocError> {
     let mut text = String::new(alloc);
     for row in rows {
         plain::add_map_row(&mut text, alloc, row)?;
@@ -166,7 +166,7 @@ fn plain_text(alloc: Global, rows: &[Row], never: &[Note]) -> Result<String, All
 fn markdown_text(
     alloc: Global,
     written: &str,
-    rows: &[Row],
+    rows: &[ChartRow],
     never: &[Note],
 ) -> Result<String, AllocError> {
     let comments = markdown::comments_of(alloc, written)?;
@@ -210,13 +210,13 @@ fn fits(rows: usize, notes: usize, most: usize) -> bool
 }
 
 /// The status of a job whose map was printed: to its end, or not.
-fn map_status(is_whole: bool) -> Status
+fn map_status(is_whole: bool) -> ExitStatus
     ensures { result ≡ map_status is_whole }
 {
     if is_whole {
-        Status::Done
+        ExitStatus::Done
     } else {
-        Status::Failed
+        ExitStatus::Failed
     }
 }
 
@@ -227,8 +227,8 @@ fn print_map<'a, W: Write>(
     written: &str,
     policy: &Policy,
     out: &mut W,
-) -> Result<Status, Halt<'a>>
-    ensures done { IfOk result (TellsMap words.now.asking words.now.lines policy.now
+) -> Result<ExitStatus, JobStop<'a>>
+    ensures done { IfOk result (PrintsMap words.now.asking words.now.lines policy.now
         (W.contents out.old) (W.contents out.new)) }
     ensures stops { IfErr result (StopsBy (λ fault. fault ≡ NoMemory)) }
     ensures quiet { IfErr result (StopsBy (λ _. W.contents out.new ≡ W.contents out.old)) }
@@ -267,7 +267,7 @@ pub fn map_file<'a, F: Files, W: Write>(
     words: &'a MapWords,
     files: &mut F,
     out: &mut W,
-) -> Result<Status, Halt<'a>>
+) -> Result<ExitStatus, JobStop<'a>>
     ensures done { IfOk result (MapsFile F.reads words.now files.old files.new
         (W.contents out.old) (W.contents out.new)) }
     ensures stops { IfErr result (StopsBy (IsNotMapped F.reads words.now files.old files.new)) }
@@ -275,10 +275,10 @@ pub fn map_file<'a, F: Files, W: Write>(
 {
     match text_and_table(alloc, files, words.table.as_str(), &words.sizes) {
         Ok((written, policy)) => print_map(alloc, words, written.as_str(), &policy, out),
-        Err(NoTable::Ended(fault)) => Err(Halt::Ended(fault)),
+        Err(NoTable::Ended(fault)) => Err(JobStop::Ended(fault)),
         Err(NoTable::BadTable(fault)) => {
             print_table_fault(out, &fault)?;
-            Ok(Status::Failed)
+            Ok(ExitStatus::Failed)
         }
     }
 }

@@ -3,8 +3,8 @@
 use crate::packets::add_packet;
 use crate::plain::sign_word;
 use crate::words::{add_ports, add_words};
-use chart_lines::Row;
-use differences::Step;
+use chart_lines::ChartRow;
+use differences::AskedRule;
 use rmap::Windows;
 use spw::lines_of;
 use std::alloc::{AllocError, Global};
@@ -92,7 +92,7 @@ fn add_step(
     text: &mut String,
     column: Column,
     comments: &[&str],
-    step: &Step,
+    step: &AskedRule,
 ) -> Result<(), AllocError> {
     let (line, verdict) = (step.number, step.rule.verdict.number());
     match column {
@@ -114,7 +114,7 @@ fn add_cell(
     text: &mut String,
     column: Column,
     comments: &[&str],
-    steps: &[Step],
+    steps: &[AskedRule],
 ) -> Result<(), AllocError> {
     text.push_str(" | ")?;
     for step in steps {
@@ -131,15 +131,15 @@ fn add_cell(
 }
 
 /// Adds the cells of what a table asks, its verdicts and its rules.
-fn add_asks(text: &mut String, steps: &[Step]) -> Result<(), AllocError> {
+fn add_asks(text: &mut String, steps: &[AskedRule]) -> Result<(), AllocError> {
     add_cell(text, Column::Asks, &[], steps)?;
     add_cell(text, Column::Verdict, &[], steps)?;
     add_cell(text, Column::Rule, &[], steps)
 }
 
 /// Adds the cells of the words of a row and of its ports.
-fn add_front(text: &mut String, alloc: Global, row: &Row) -> Result<(), AllocError> {
-    add_words(text, alloc, row.told(), " | ")?;
+fn add_front(text: &mut String, alloc: Global, row: &ChartRow) -> Result<(), AllocError> {
+    add_words(text, alloc, row.reported(), " | ")?;
     text.push_str(" | ")?;
     add_ports(text, alloc, row.ports())
 }
@@ -153,12 +153,12 @@ pub fn add_map_row(
     text: &mut String,
     alloc: Global,
     comments: &[&str],
-    row: &Row,
+    row: &ChartRow,
 ) -> Result<(), AllocError> {
     text.push_str("| ")?;
     add_front(text, alloc, row)?;
-    add_asks(text, row.told().course())?;
-    add_cell(text, Column::Comment, comments, row.told().course())?;
+    add_asks(text, row.reported().decision_path())?;
+    add_cell(text, Column::Comment, comments, row.reported().decision_path())?;
     text.push_str(" |\n")
 }
 
@@ -171,17 +171,17 @@ pub fn add_difference(
     text: &mut String,
     alloc: Global,
     windows: &Windows,
-    row: &Row,
+    row: &ChartRow,
 ) -> Result<(), AllocError> {
-    let Some(change) = row.told().change() else {
+    let Some(change) = row.reported().change() else {
         return Ok(());
     };
     text.push_str("| ")?;
     text.push_str(sign_word(change.sign))?;
     text.push_str(" | ")?;
     add_front(text, alloc, row)?;
-    add_asks(text, row.told().course())?;
-    add_asks(text, row.told().new_course())?;
+    add_asks(text, row.reported().decision_path())?;
+    add_asks(text, row.reported().new_course())?;
     text.push_str(" | ")?;
     add_packet(text, alloc, windows, row.ports(), &change)?;
     text.push_str(" |\n")

@@ -3,7 +3,7 @@
 ghost use Rattle.std.specs.Prelude.{◌≡◌, ◌++◌, ◌∷◌, [], IfOk, MatchBool, OnOk};
 ghost use Rattle.std.specs.Option.{option_or};
 ghost use Rattle.job_charts.specs.Missed.{AddsBank, ArePlaces, IsMissed, MeetsNone, MeetsPlace, MissesPlaces, bank_missed, bank_rules, boot_rules, port_missed, range_missed, window_rule};
-ghost use Rattle.chart_lines.specs.Telling.{TellsFirst};
+ghost use Rattle.chart_lines.specs.Reporting.{PrintsFirst};
 
 use charts::is_stopped_by;
 use policy_table::{PortRule, Rule, RuleKind};
@@ -63,7 +63,7 @@ fn push_bank(places: &mut Vec<Rule>, windows: &Windows, number: u8) -> Result<()
 
 /// The rules of all commands to each bank.
 fn bank_places(alloc: Global, windows: &Windows) -> Result<Vec<Rule>, AllocError>
-    ensures { IfOk result (λ places. TellsFirst (AddsBank windows.now) 8 [] places.items) }
+    ensures { IfOk result (λ places. PrintsFirst (AddsBank windows.now) 8 [] places.items) }
 {
     let mut places = Vec::new(alloc);
     for number in 0..BANKS {

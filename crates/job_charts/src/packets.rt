@@ -6,9 +6,9 @@ ghost use Rattle.initiator.specs.Writing.{AreFields, command_with};
 ghost use Rattle.regions.specs.Points.{HasCommand};
 ghost use Rattle.rmap.specs.Command.{bytes_of, command_of, discard_of};
 ghost use Rattle.rmap.specs.Checks.{header_check};
-ghost use Rattle.job_charts.specs.Packets.{PacketsHavePoints, body_for, command_at, count_at, fields_at, is_brought, packet_at};
+ghost use Rattle.job_charts.specs.Packets.{PacketsHavePoints, body_for, command_at, data_count_at, fields_at, is_brought, packet_at};
 
-use chart_lines::Change;
+use chart_lines::RowChange;
 use differences::Repeats;
 use initiator::{CommandFields, body_with_crc, write_command};
 use regions::Point;
@@ -39,9 +39,9 @@ fn length_for(kind: Kind, addresses: u32) -> u32
 }
 
 /// How many bytes of data the command of a point has.
-fn count_at(point: &Point) -> u32
+fn data_count_at(point: &Point) -> u32
     requires { HasCommand point.now }
-    ensures { result ≡ count_at point.now }
+    ensures { result ≡ data_count_at point.now }
 {
     length_for(point.kind, point.last - point.first + 1)
 }
@@ -61,7 +61,7 @@ fn fields_at<'a>(target: u8, point: &Point) -> CommandFields<'a>
         transaction: 0,
         extended: point.extended,
         address: point.first,
-        length: count_at(point),
+        length: data_count_at(point),
     }
 }
 
@@ -91,7 +91,7 @@ fn bytes_at(alloc: Global, target: u8, point: &Point) -> Result<Vec<u8>, AllocEr
     ensures { IfOk result (λ bytes. bytes.items ≡ bytes_of (command_at target point.now)) }
 {
     let fields = fields_at(target, point);
-    let body = body_for(alloc, point.kind, count_at(point))?;
+    let body = body_for(alloc, point.kind, data_count_at(point))?;
     write_command(alloc, &fields, body.as_slice())
 }
 
@@ -139,7 +139,7 @@ pub fn add_packet(
     alloc: Global,
     windows: &Windows,
     ports: &[u8],
-    change: &Change,
+    change: &RowChange,
 ) -> Result<(), AllocError>
     requires { HasCommand change.now.point }
 {

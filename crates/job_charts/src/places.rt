@@ -1,6 +1,6 @@
 //! Where the point is looked for whose packet is printed.
 
-use regions::{ByteSet, Region, Stretch};
+use regions::{ByteSet, PointRegion, Stretch};
 use rmap::{BOOT_WINDOW, CONTROL_SIZE, LOAD_REGISTER, LOAD_RESULT_SIZE, STAGING_SIZE, Windows};
 use std::alloc::{AllocError, Global};
 
@@ -11,7 +11,7 @@ const INITIATOR: u8 = 0x67;
 const BANKS: u8 = 8;
 
 /// The commands whose bytes lie in this many from an address on, of an extended address.
-fn range(extended: u8, base: u32, size: u32) -> Region {
+fn range(extended: u8, base: u32, size: u32) -> PointRegion {
     let addresses = Stretch {
         start: u64::from(base),
         end: u64::from(base) + u64::from(size),
@@ -23,17 +23,17 @@ fn range(extended: u8, base: u32, size: u32) -> Region {
 }
 
 /// The commands to just these bytes of the load register.
-fn register(size: u32) -> Region {
+fn register(size: u32) -> PointRegion {
     let base = u64::from(LOAD_REGISTER);
-    let behind = base + u64::from(size);
+    let following = base + u64::from(size);
     let mut region = range(BOOT_WINDOW, LOAD_REGISTER, size);
     region.first.end = base + 1;
-    region.last.start = behind.saturating_sub(1);
+    region.last.start = following.saturating_sub(1);
     region
 }
 
 /// Reads of the load result.
-fn results() -> Region {
+fn results() -> PointRegion {
     let mut region = register(LOAD_RESULT_SIZE);
     region.kinds.write = false;
     region.kinds.rmw = false;
@@ -41,7 +41,7 @@ fn results() -> Region {
 }
 
 /// Control writes.
-fn controls() -> Region {
+fn controls() -> PointRegion {
     let mut region = register(CONTROL_SIZE);
     region.kinds.read = false;
     region.kinds.rmw = false;
@@ -49,16 +49,16 @@ fn controls() -> Region {
 }
 
 /// The commands of an extended address.
-fn of_extended(extended: u8) -> Region {
-    let mut region = Region::whole();
+fn of_extended(extended: u8) -> PointRegion {
+    let mut region = PointRegion::whole();
     region.extended = ByteSet::only(extended);
     region
 }
 
 /// Adds the commands of a region that are of these initiators.
 fn add_place(
-    places: &mut Vec<Region>,
-    region: Region,
+    places: &mut Vec<PointRegion>,
+    region: PointRegion,
     initiators: &ByteSet,
 ) -> Result<(), AllocError> {
     let mut place = region;
@@ -69,7 +69,7 @@ fn add_place(
 
 /// Adds the places of a node with these windows, of these initiators: first where it brings commands to its table.
 fn add_places(
-    places: &mut Vec<Region>,
+    places: &mut Vec<PointRegion>,
     windows: &Windows,
     initiators: &ByteSet,
 ) -> Result<(), AllocError> {
@@ -87,7 +87,7 @@ fn add_places(
         }
     }
     add_place(places, of_extended(BOOT_WINDOW), initiators)?;
-    add_place(places, Region::whole(), initiators)
+    add_place(places, PointRegion::whole(), initiators)
 }
 
 /// The places where the point of a row is looked for, in their order. Those with initiator 67 come before those with
@@ -96,7 +96,7 @@ fn add_places(
 /// # Errors
 ///
 /// An error if memory is refused.
-pub fn places(alloc: Global, windows: &Windows) -> Result<Vec<Region>, AllocError> {
+pub fn places(alloc: Global, windows: &Windows) -> Result<Vec<PointRegion>, AllocError> {
     let mut places = Vec::new(alloc);
     add_places(&mut places, windows, &ByteSet::only(INITIATOR))?;
     add_places(&mut places, windows, &ByteSet::all())?;

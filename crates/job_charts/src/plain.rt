@@ -2,8 +2,8 @@
 
 use crate::packets::add_packet;
 use crate::words::{add_ports, add_words};
-use chart_lines::{PORTS, Row};
-use differences::{Sign, Step};
+use chart_lines::{PORTS, ChartRow};
+use differences::{Sign, AskedRule};
 use rmap::Windows;
 use std::alloc::{AllocError, Global};
 
@@ -18,7 +18,7 @@ pub fn sign_word(sign: Sign) -> &'static str {
 }
 
 /// Adds a course: the rules that are asked, in order, and the verdict if none of them matches.
-fn add_course(text: &mut String, steps: &[Step]) -> Result<(), AllocError> {
+fn add_path(text: &mut String, steps: &[AskedRule]) -> Result<(), AllocError> {
     for step in steps {
         let (line, verdict) = (step.number, step.rule.verdict.number());
         let Some(quota) = step.rule.quota else {
@@ -34,8 +34,8 @@ fn add_course(text: &mut String, steps: &[Step]) -> Result<(), AllocError> {
 }
 
 /// Adds the words of a row, and its ports, if they are not all.
-fn add_front(text: &mut String, alloc: Global, row: &Row) -> Result<(), AllocError> {
-    add_words(text, alloc, row.told(), " ")?;
+fn add_front(text: &mut String, alloc: Global, row: &ChartRow) -> Result<(), AllocError> {
+    add_words(text, alloc, row.reported(), " ")?;
     if row.ports().len() == usize::from(PORTS) {
         return Ok(());
     }
@@ -48,10 +48,10 @@ fn add_front(text: &mut String, alloc: Global, row: &Row) -> Result<(), AllocErr
 /// # Errors
 ///
 /// An error if memory is refused.
-pub fn add_map_row(text: &mut String, alloc: Global, row: &Row) -> Result<(), AllocError> {
+pub fn add_map_row(text: &mut String, alloc: Global, row: &ChartRow) -> Result<(), AllocError> {
     add_front(text, alloc, row)?;
     text.push_str(" : ")?;
-    add_course(text, row.told().course())?;
+    add_path(text, row.reported().decision_path())?;
     text.push_str("\n")
 }
 
@@ -64,18 +64,18 @@ pub fn add_difference(
     text: &mut String,
     alloc: Global,
     windows: &Windows,
-    row: &Row,
+    row: &ChartRow,
 ) -> Result<(), AllocError> {
-    let Some(change) = row.told().change() else {
+    let Some(change) = row.reported().change() else {
         return Ok(());
     };
     text.push_str(sign_word(change.sign))?;
     text.push_str(" ")?;
     add_front(text, alloc, row)?;
     text.push_str("\n    old ")?;
-    add_course(text, row.told().course())?;
+    add_path(text, row.reported().decision_path())?;
     text.push_str("\n    new ")?;
-    add_course(text, row.told().new_course())?;
+    add_path(text, row.reported().new_course())?;
     text.push_str("\n    ")?;
     add_packet(text, alloc, windows, row.ports(), &change)?;
     text.push_str("\n")

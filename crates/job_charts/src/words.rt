@@ -2,8 +2,8 @@
 //! cases hold how they are written.
 
 use byteorder::{BigEndian, ByteOrder};
-use chart_lines::{PORTS, Told};
-use regions::{ByteSet, Kinds, Region, Stretch};
+use chart_lines::{PORTS, RowContent};
+use regions::{ByteSet, Kinds, PointRegion, Stretch};
 use std::alloc::{AllocError, Global};
 
 /// The address after the last.
@@ -110,7 +110,7 @@ fn add_addresses(
     text: &mut String,
     alloc: Global,
     rest: bool,
-    region: &Region,
+    region: &PointRegion,
 ) -> Result<(), AllocError> {
     if rest {
         return text.push_str("else");
@@ -126,10 +126,10 @@ fn add_addresses(
 pub fn add_words(
     text: &mut String,
     alloc: Global,
-    told: &Told,
+    reported: &RowContent,
     between: &str,
 ) -> Result<(), AllocError> {
-    let region = told.region();
+    let region = reported.region();
     text.push_str(kinds_word(region.kinds))?;
     text.push_str(between)?;
     add_set(text, alloc, &region.keys)?;
@@ -138,7 +138,7 @@ pub fn add_words(
     text.push_str(between)?;
     add_set(text, alloc, &region.extended)?;
     text.push_str(between)?;
-    add_addresses(text, alloc, told.is_rest(), region)
+    add_addresses(text, alloc, reported.is_rest(), region)
 }
 
 /// The ports that are among these, or else those that are not, from the least on.

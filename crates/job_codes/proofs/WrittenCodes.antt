@@ -15,11 +15,11 @@ lower_digits : (digits : List ℕ) → AllDigits 10 digits → map to_ascii_lowe
 lower_digits [] all = refl
 lower_digits (c ∷ digits) all = ap₂ (λ (d : ℕ) (ds : List ℕ). d ∷ ds) (lower_digit c all.0) (lower_digits digits all.1)
 
-pub written_behind : (word text : List ℕ) (n : ℕ) → n < 2 ^ 8 → IsWritten (word ++ decimal n) text → map to_ascii_lowercase text ≡ map to_ascii_lowercase word ++ decimal n
-written_behind word text n small written =
+pub written_after : (word text : List ℕ) (n : ℕ) → n < 2 ^ 8 → IsWritten (word ++ decimal n) text → map to_ascii_lowercase text ≡ map to_ascii_lowercase word ++ decimal n
+written_after word text n small written =
     sym written ∙ map-append to_ascii_lowercase word (decimal n)
     ∙ ap (λ (ds : List ℕ). map to_ascii_lowercase word ++ ds) (lower_digits (decimal n) (decimal_is_IsNumeral n (omega (arith, small))).0.1)
 
 -- What comes after the letters is the rest of the text.
-pub rest_behind : (text front digits rest : List ℕ) (k : ℕ) → rest ≡ drop k text → text ≡ front ++ drop k text → text ≡ front ++ digits → rest ≡ digits
-rest_behind text front digits rest k is split whole = is ∙ append_cancel_left front (drop k text) digits (sym split ∙ whole)
+pub rest_after : (text front digits rest : List ℕ) (k : ℕ) → rest ≡ drop k text → text ≡ front ++ drop k text → text ≡ front ++ digits → rest ≡ digits
+rest_after text front digits rest k is split whole = is ∙ append_cancel_left front (drop k text) digits (sym split ∙ whole)

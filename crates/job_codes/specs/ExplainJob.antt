@@ -36,6 +36,6 @@ RefusesExplain rows (Parse text) = ⊥
 -- some lines were printed, and after them what is to be said of a code, four columns further right. Which text that is
 -- has no clause
 pub record Explains (old new : Option (List ℕ)) : Type 0 where
-  pub told : Option (List ℕ)
-  pub head : PrintsMore old told
-  pub advice : GivesReason told new
+  pub reported : Option (List ℕ)
+  pub head : PrintsMore old reported
+  pub advice : GivesReason reported new

@@ -2,14 +2,14 @@
 use Rattle.std.specs.Prelude.{◌≡◌, ◌⊎◌, ℕ, List, [], ◌∷◌, ◌++◌, Option, Some, None, codes, decimal, string_bytes}
 use Rattle.std.specs.Io.KnownBytes.{Appends}
 use Rattle.bpf.specs.Program.{Program, IsProgram, image_bytes, insn_at}
-use Rattle.bpf.specs.Reading.{Fails, image_reading}
+use Rattle.bpf.specs.Reading.{FailsReading, image_reading}
 use Rattle.bpf.specs.Weight.{weight_of, saturated_weight}
 use Rattle.bpf.specs.declared.fault.ImageFault.{ImageFault}
 use Rattle.bpf_insn.specs.declared.insn.Insn.{Insn}
 use Rattle.bpf_insn.specs.Text.{insn_text}
 use Rattle.bver.specs.Justified.{IsJustified}
 use Rattle.bver.specs.Refusals.{IsRefusal}
-use Rattle.bver.specs.Unjustified.{TellsUnjustified}
+use Rattle.bver.specs.Unjustified.{ReportsUnjustified}
 use Rattle.bver_form.specs.declared.refusal.Refusal.{Refusal}
 use Rattle.bver_form.specs.declared.refusal.Refusal.TheVariants.{Target, BackJump, LoopShape, LoopEntry, Unset}
 use Rattle.bver_form.specs.declared.refusal.Refusal.TheVariants.{KindMismatch, OutOfRegion, UnsetStack, HeaderWrite}
@@ -18,11 +18,11 @@ use Rattle.bver_form.specs.declared.refusal.Refusal.TheVariants.{Budget, Unsuppo
 use Rattle.bver_form.specs.declared.refusal.Refused.{Refused}
 use Rattle.machine.specs.Runs.{IsSafe}
 use Rattle.machine.specs.Sizes.{Maps}
-use Rattle.job_parts.specs.Files.{Reads}
-use Rattle.job_parts.specs.Printed.{GivesReason, fault_line}
+use Rattle.job_parts.specs.Files.{ReadsFile}
+use Rattle.job_parts.specs.Printed.{GivesReason, job_fault_line}
 use Rattle.job_parts.specs.declared.faults.Fault.TheVariants.{BadImage, Refused as IsRefused}
-use Rattle.job_parts.specs.declared.status.Status.{Status}
-use Rattle.job_parts.specs.declared.status.Status.TheVariants.{Done, Failed, Misused}
+use Rattle.job_parts.specs.declared.status.ExitStatus.{ExitStatus}
+use Rattle.job_parts.specs.declared.status.ExitStatus.TheVariants.{Done, Failed, Misused}
 use Rattle.job_parts.specs.Forms.{PrintsForm}
 use Rattle.job_texts.specs.Needed.{PrintsMaps}
 use Rattle.job_texts.specs.VerifyJob.{accepted_line}
@@ -64,65 +64,65 @@ abbrev pub cause_line : Program → Refused → List ℕ
 cause_line p refused = cause_of p refused.slot refused.code
 
 -- the line of a refusal was printed, what the program is refused for, and a reason
-pub record TellsRefusal (p : Program) (refused : Refused) (old new : Option (List ℕ)) : Type 0 where
-  pub told : Option (List ℕ)
+pub record PrintsRefusal (p : Program) (refused : Refused) (old new : Option (List ℕ)) : Type 0 where
+  pub reported : Option (List ℕ)
   pub caused : Option (List ℕ)
-  pub line : Appends old told (fault_line (IsRefused refused))
-  pub cause : Appends told caused (cause_line p refused)
+  pub line : Appends old reported (job_fault_line (IsRefused refused))
+  pub cause : Appends reported caused (cause_line p refused)
   pub reason : GivesReason caused new
 
 -- the program is justified, and so safe. Its weight and budget were printed, and after them the maps that it needs
 pub record AcceptsProgram (p : Program) (sizes : Maps) (old new : Option (List ℕ)) : Type 0 where
   pub justified : IsJustified p sizes
   pub safe : IsSafe p sizes
-  pub told : Option (List ℕ)
-  pub line : Appends old told (accepted_line (saturated_weight (weight_of p)) p.budget)
-  pub maps : PrintsMaps [] p told new
+  pub reported : Option (List ℕ)
+  pub line : Appends old reported (accepted_line (saturated_weight (weight_of p)) p.budget)
+  pub maps : PrintsMaps [] p reported new
 
 -- the verifier refuses the program so, for a node with maps of these sizes. That was printed, with the maps that the
 -- program needs after it
 pub record RefusesProgram (p : Program) (sizes : Maps) (old new : Option (List ℕ)) : Type 0 where
   pub refused : Refused
   pub refusal : IsRefusal p refused
-  pub unjustified : TellsUnjustified p sizes refused
-  pub told : Option (List ℕ)
-  pub tells : TellsRefusal p refused old told
-  pub maps : PrintsMaps [] p told new
+  pub unjustified : ReportsUnjustified p sizes refused
+  pub reported : Option (List ℕ)
+  pub reports : PrintsRefusal p refused old reported
+  pub maps : PrintsMaps [] p reported new
 
 -- what was printed of a program, by the status: 0 if it is accepted, 1 if it is refused
-abbrev pub ExplainsProgram : Program → Maps → (old new : Option (List ℕ)) → Status → Type 0
+abbrev pub ExplainsProgram : Program → Maps → (old new : Option (List ℕ)) → ExitStatus → Type 0
 ExplainsProgram p sizes old new Done = AcceptsProgram p sizes old new
 ExplainsProgram p sizes old new Failed = RefusesProgram p sizes old new
 ExplainsProgram p sizes old new Misused = ⊥
 
 -- the bytes spell the program, and what there is to say of it was printed
-pub record TellsProgram (bytes : List ℕ) (Told : Program → Type 0) : Type 0 where
+pub record PrintsProgram (bytes : List ℕ) (Describes : Program → Type 0) : Type 0 where
   pub program : Program
   pub spelled : bytes ≡ image_bytes program
   pub limits : IsProgram program
-  pub told : Told program
+  pub reported : Describes program
 
 -- an image's fault is the first in the bytes; and its line was printed, a reason after it, and what the bytes are
-pub record TellsNoImage (bytes : List ℕ) (old new : Option (List ℕ)) : Type 0 where
+pub record PrintsNoImage (bytes : List ℕ) (old new : Option (List ℕ)) : Type 0 where
   pub fault : ImageFault
-  pub first : Fails fault (image_reading bytes)
-  pub told : Option (List ℕ)
+  pub first : FailsReading fault (image_reading bytes)
+  pub reported : Option (List ℕ)
   pub explained : Option (List ℕ)
-  pub line : Appends old told (fault_line (BadImage fault))
-  pub reason : GivesReason told explained
+  pub line : Appends old reported (job_fault_line (BadImage fault))
+  pub reason : GivesReason reported explained
   pub form : PrintsForm bytes explained new
 
 -- what was printed of the bytes of a file, by the status. It is 0 if they are an image whose program may judge, and 1
 -- if the program is refused or they are no image
-abbrev pub ExplainsBytes : (bytes : List ℕ) → Maps → (old new : Option (List ℕ)) → Status → Type 0
-ExplainsBytes bytes sizes old new Done = TellsProgram bytes (λ p. AcceptsProgram p sizes old new)
+abbrev pub ExplainsBytes : (bytes : List ℕ) → Maps → (old new : Option (List ℕ)) → ExitStatus → Type 0
+ExplainsBytes bytes sizes old new Done = PrintsProgram bytes (λ p. AcceptsProgram p sizes old new)
 ExplainsBytes bytes sizes old new Failed =
-    TellsProgram bytes (λ p. RefusesProgram p sizes old new) ⊎ TellsNoImage bytes old new
+    PrintsProgram bytes (λ p. RefusesProgram p sizes old new) ⊎ PrintsNoImage bytes old new
 ExplainsBytes bytes sizes old new Misused = ⊥
 
-module _ {S : Type 0} (reads : Reads S) (args : ImageArgs) where
+module _ {S : Type 0} (reads : ReadsFile S) (args : ImageArgs) where
   -- what `why` reads and prints if no fault ends it, by its exit status: 0 if the program may judge, else 1
-  pub record ExplainsFile (before after : S) (old new : Option (List ℕ)) (status : Status) : Type 0 where
+  pub record ExplainsFile (before after : S) (old new : Option (List ℕ)) (status : ExitStatus) : Type 0 where
     pub bytes : List ℕ
     pub read : reads before (string_bytes args.image) (Some bytes) after
-    pub told : ExplainsBytes bytes args.sizes old new status
+    pub reported : ExplainsBytes bytes args.sizes old new status

@@ -18,8 +18,8 @@ use Rattle.job_codes.specs.declared.topics.CodeKind.TheVariants.{Verifier, Text,
 use Rattle.job_codes.specs.declared.topics.CodeKind.TheVariants.{Status, Load, Policy, Node}
 
 -- the kind at a place of the order in which codes are listed, the last one at every later place
-unfoldable pub kind_at : ℕ → CodeKind
-kind_at place =
+unfoldable pub topic_kind_at : ℕ → CodeKind
+topic_kind_at place =
     if place == 0 then Verifier
     else (if place == 1 then Text
     else (if place == 2 then Image
@@ -33,52 +33,52 @@ kind_at place =
     else Node)))))))))
 
 -- the letters before the number
-abbrev pub kind_word : CodeKind → List ℕ
-kind_word Verifier = codes "V"
-kind_word Text = codes "asm"
-kind_word Image = codes "image"
-kind_word Insn = codes "insn"
-kind_word Line = codes "line"
-kind_word Frame = codes "frame"
-kind_word Discard = codes "discard"
-kind_word Status = codes "status"
-kind_word Load = codes "load"
-kind_word Policy = codes "policy"
-kind_word Node = codes "node"
+abbrev pub kind_letters : CodeKind → List ℕ
+kind_letters Verifier = codes "V"
+kind_letters Text = codes "asm"
+kind_letters Image = codes "image"
+kind_letters Insn = codes "insn"
+kind_letters Line = codes "line"
+kind_letters Frame = codes "frame"
+kind_letters Discard = codes "discard"
+kind_letters Status = codes "status"
+kind_letters Load = codes "load"
+kind_letters Policy = codes "policy"
+kind_letters Node = codes "node"
 
 -- the code of a load result: 0 for a load that was carried out, or that of a refusal
 abbrev pub is_load_code : ℕ → Bool
 is_load_code n = n == 0 || is_some (load_refusal_of_code n)
 
 -- the kind has a code of the number
-abbrev pub has_code : CodeKind → ℕ → Bool
-has_code Verifier n = is_some (refusal_of_code n)
-has_code Text n = is_some (asm_of_code n)
-has_code Image n = is_some (image_fault_of_code n)
-has_code Insn n = is_some (bad_insn_of_code n)
-has_code Line n = is_some (bad_line_of_number n)
-has_code Frame n = is_some (frame_fault_of_code n)
-has_code Discard n = is_some (discard_of_code n)
-has_code Status n = is_some (status_of_code n)
-has_code Load n = is_load_code n
-has_code Policy n = is_some (policy_fault_of_code n)
-has_code Node n = is_some (node_code_of n)
+abbrev pub has_topic_code : CodeKind → ℕ → Bool
+has_topic_code Verifier n = is_some (refusal_of_code n)
+has_topic_code Text n = is_some (asm_of_code n)
+has_topic_code Image n = is_some (image_fault_of_code n)
+has_topic_code Insn n = is_some (bad_insn_of_code n)
+has_topic_code Line n = is_some (bad_line_of_number n)
+has_topic_code Frame n = is_some (frame_fault_of_code n)
+has_topic_code Discard n = is_some (discard_of_code n)
+has_topic_code Status n = is_some (status_of_code n)
+has_topic_code Load n = is_load_code n
+has_topic_code Policy n = is_some (policy_fault_of_code n)
+has_topic_code Node n = is_some (node_code_of n)
 
 -- the text of a code: the letters of its kind, and its number in decimal
 abbrev pub code_text : CodeKind → ℕ → List ℕ
-code_text kind n = kind_word kind ++ decimal n
+code_text kind n = kind_letters kind ++ decimal n
 
 -- the text is that of the code, in upper or lower case
 abbrev pub IsWritten : (code text : List ℕ) → Type 0
 IsWritten code text = map to_ascii_lowercase code ≡ map to_ascii_lowercase text
 
 -- the kind has the number, and the text writes its code
-abbrev pub Writes : CodeKind → ℕ → List ℕ → Type 0
-Writes kind n text = (has_code kind n ≡ true) × IsWritten (code_text kind n) text
+abbrev pub WritesCode : CodeKind → ℕ → List ℕ → Type 0
+WritesCode kind n text = (has_topic_code kind n ≡ true) × IsWritten (code_text kind n) text
 
 -- the text writes a code of the kind, whose number is a byte
 abbrev pub HasNumber : CodeKind → List ℕ → Type 0
-HasNumber kind text = (n : ℕ) × (n < 2 ^ 8) × Writes kind n text
+HasNumber kind text = (n : ℕ) × (n < 2 ^ 8) × WritesCode kind n text
 
 -- the text is a code with its number in decimal
 abbrev pub IsDecimalCode : List ℕ → Type 0
@@ -94,7 +94,7 @@ marked_byte_text byte = codes "load0x" ++ encode_upper (byte ∷ [])
 
 -- there is such a load result, and the text writes its code in hexadecimal digits, with 0x or without
 abbrev pub WritesByte : ℕ → List ℕ → Type 0
-WritesByte byte text = (has_code Load byte ≡ true) × (IsWritten (byte_text byte) text ⊎ IsWritten (marked_byte_text byte) text)
+WritesByte byte text = (has_topic_code Load byte ≡ true) × (IsWritten (byte_text byte) text ⊎ IsWritten (marked_byte_text byte) text)
 
 -- the text writes the code of a load result so
 abbrev pub HasByte : List ℕ → Type 0
@@ -107,4 +107,4 @@ IsCode text = IsDecimalCode text ⊎ HasByte text
 -- the text is the code of this kind and number: in decimal, or for a load result in hexadecimal digits that are no code
 -- in decimal
 abbrev pub IsCodeOf : CodeKind → ℕ → List ℕ → Type 0
-IsCodeOf kind n text = Writes kind n text ⊎ ((kind ≡ Load) × WritesByte n text × ¬ IsDecimalCode text)
+IsCodeOf kind n text = WritesCode kind n text ⊎ ((kind ≡ Load) × WritesByte n text × ¬ IsDecimalCode text)

@@ -3,18 +3,18 @@
 ghost use Rattle.std.specs.Prelude.{◌≡◌, IfErr, IfOk, false, string_bytes};
 ghost use Rattle.job_parts.specs.Matched.{app_of, fields_of, found_of, rows_of};
 ghost use Rattle.job_codes.specs.ExplainJob.{Explains, NamesExplain, RefusesExplain, explain_app};
-ghost use Rattle.job_parts.specs.Options.{IsValueFault};
+ghost use Rattle.job_parts.specs.Options.{IsOptionFault};
 ghost use Rattle.job_parts.specs.Statuses.{IsDoneWith};
 ghost use Rattle.job_parts.specs.Stops.{StopsBy};
 ghost use Rattle.job_codes.specs.Topics.{IsCode};
 ghost use Rattle.job_parts.specs.declared.faults.Fault.TheVariants.{NoMemory};
 
-use crate::topics::{Code, CodeKind, KINDS, Topic, read_code};
+use crate::topics::{TopicCode, CodeKind, KINDS, Topic, read_code};
 use clap::{ArgMatches, Command};
 use job_parts::arguments::{optional, text_of};
 use job_parts::printing::{print_indented, print_text};
-use job_parts::status::Status;
-use job_parts::stops::Halt;
+use job_parts::status::ExitStatus;
+use job_parts::stops::JobStop;
 use job_parts::usage::UsageFault;
 use std::alloc::{AllocError, Global};
 use std::io::Write;
@@ -44,7 +44,7 @@ pub fn explain_command<'a>(alloc: Global) -> Result<Command<'a>, AllocError>
 /// A text that is a code.
 fn checked_code(alloc: Global, text: &str) -> Result<String, UsageFault>
     ensures ok { IfOk result (λ code. (string_bytes code ≡ text.now) × IsCode text.now) }
-    ensures err { IfErr result (IsValueFault (IsCode text.now)) }
+    ensures err { IfErr result (IsOptionFault (IsCode text.now)) }
 {
     match read_code(alloc, text)? {
         Some(_) => Ok(String::from_str(alloc, text)?),
@@ -71,7 +71,7 @@ pub fn explain_job(alloc: Global, found: &ArgMatches) -> Result<ExplainWords, Us
 }
 
 /// Adds the line of a code, and what it is.
-fn add_title(text: &mut String, alloc: Global, code: Code, topic: Topic) -> Result<(), AllocError> {
+fn add_title(text: &mut String, alloc: Global, code: TopicCode, topic: Topic) -> Result<(), AllocError> {
     let word = code.kind.word();
     let number = code.number;
     let title = topic.title(alloc)?;
@@ -85,7 +85,7 @@ fn listing(alloc: Global) -> Result<String, AllocError> {
         let kind = CodeKind::at(place);
         for number in 0..=255u8 {
             if let Some(topic) = kind.topic(number) {
-                add_title(&mut text, alloc, Code { kind, number }, topic)?;
+                add_title(&mut text, alloc, TopicCode { kind, number }, topic)?;
             }
         }
     }
@@ -114,7 +114,7 @@ pub fn explain<'a, W: Write>(
     alloc: Global,
     words: &ExplainWords,
     out: &mut W,
-) -> Result<Status, Halt<'a>>
+) -> Result<ExitStatus, JobStop<'a>>
     ensures done { IfOk result
         (IsDoneWith (Explains (W.contents out.old) (W.contents out.new))) }
     ensures stops { IfErr result (StopsBy (λ fault. fault ≡ NoMemory)) }
@@ -126,5 +126,5 @@ pub fn explain<'a, W: Write>(
     };
     print_text(out, text.as_str())?;
     print_indented(out, advice)?;
-    Ok(Status::Done)
+    Ok(ExitStatus::Done)
 }

@@ -1,7 +1,7 @@
 //! The codes that outputs have, and what is said of each.
 
 ghost use Rattle.std.specs.Prelude.{◌≡◌, ◌↔◌, ◌<◌, ◌^◌, ◌++◌, ℕ, IfOk, IsTrue, MatchOption, Some, decimal, is_some};
-ghost use Rattle.job_codes.specs.Topics.{HasNumber, HasByte, IsCode, IsCodeOf, IsDecimalCode, IsWritten, Writes, WritesByte, byte_text, code_text, has_code, is_load_code, kind_at, kind_word, marked_byte_text};
+ghost use Rattle.job_codes.specs.Topics.{HasNumber, HasByte, IsCode, IsCodeOf, IsDecimalCode, IsWritten, WritesCode, WritesByte, byte_text, code_text, has_topic_code, is_load_code, topic_kind_at, kind_letters, marked_byte_text};
 
 use basm::AsmCode;
 use bpf::ImageFault;
@@ -146,7 +146,7 @@ fn load_topic(number: u8) -> Option<Topic>
 
 /// The number that comes after this word in a text, in upper or lower case. A text that writes a number so gives that
 /// number; another may give one too.
-fn number_behind(alloc: Global, word: &str, text: &str) -> Result<Option<u8>, AllocError>
+fn number_after(alloc: Global, word: &str, text: &str) -> Result<Option<u8>, AllocError>
     ensures { IfOk result (λ number. (n : ℕ) → n < 2 ^ 8
         → IsWritten (word.now ++ decimal n) text.now → number ≡ Some n) }
 {
@@ -160,9 +160,9 @@ fn number_behind(alloc: Global, word: &str, text: &str) -> Result<Option<u8>, Al
 
 impl CodeKind {
     /// The kind at this place, from 0, of the order in which codes are listed; at every later place the last one.
-    #[tactic(auto, unfolding(crate::specs::Topics::kind_at))]
+    #[tactic(auto, unfolding(crate::specs::Topics::topic_kind_at))]
     pub fn at(place: u8) -> CodeKind
-        ensures { result ≡ kind_at place }
+        ensures { result ≡ topic_kind_at place }
     {
         match place {
             0 => CodeKind::Verifier,
@@ -181,7 +181,7 @@ impl CodeKind {
 
     /// The letters before the number.
     pub fn word(self) -> &'static str
-        ensures { result.now ≡ kind_word self }
+        ensures { result.now ≡ kind_letters self }
     {
         match self {
             CodeKind::Verifier => "V",
@@ -200,7 +200,7 @@ impl CodeKind {
 
     /// What the code of this number means. `None` if the kind has no such code.
     pub fn topic(self, number: u8) -> Option<Topic>
-        ensures { is_some result ≡ has_code self number }
+        ensures { is_some result ≡ has_topic_code self number }
     {
         match self {
             CodeKind::Verifier => Some(Topic::Refusal(Refusal::from_code(number)?)),
@@ -229,9 +229,9 @@ impl CodeKind {
     /// The number of the code of this kind that a text writes.
     fn number_in(self, alloc: Global, text: &str) -> Result<Option<u8>, AllocError>
         ensures { IfOk result (λ number. MatchOption number
-            (¬ HasNumber self text.now) (λ n. Writes self n text.now)) }
+            (¬ HasNumber self text.now) (λ n. WritesCode self n text.now)) }
     {
-        let Some(number) = number_behind(alloc, self.word(), text)? else {
+        let Some(number) = number_after(alloc, self.word(), text)? else {
             return Ok(None);
         };
         if self.topic(number).is_some() && self.is_written(alloc, number, text)? {
@@ -244,20 +244,20 @@ impl CodeKind {
 
 /// A code: a kind and a number.
 #[derive(Clone, Copy, Debug, PartialEq, Eq)]
-pub struct Code {
+pub struct TopicCode {
     pub kind: CodeKind,
     pub number: u8,
 }
 
 /// The code that a text writes in decimal, in upper or lower case. `None` if it is none.
-fn decimal_code(alloc: Global, text: &str) -> Result<Option<Code>, AllocError>
+fn decimal_code(alloc: Global, text: &str) -> Result<Option<TopicCode>, AllocError>
     ensures { IfOk result (λ code. MatchOption code
-        (¬ IsDecimalCode text.now) (λ c. Writes c.kind c.number text.now)) }
+        (¬ IsDecimalCode text.now) (λ c. WritesCode c.kind c.number text.now)) }
 {
     for place in 0..KINDS {
         let kind = CodeKind::at(place);
         if let Some(number) = kind.number_in(alloc, text)? {
-            return Ok(Some(Code { kind, number }));
+            return Ok(Some(TopicCode { kind, number }));
         }
     }
     Ok(None)
@@ -314,7 +314,7 @@ fn load_byte(alloc: Global, text: &str) -> Result<Option<u8>, AllocError>
 /// # Errors
 ///
 /// An error if memory is refused.
-pub fn read_code(alloc: Global, text: &str) -> Result<Option<Code>, AllocError>
+pub fn read_code(alloc: Global, text: &str) -> Result<Option<TopicCode>, AllocError>
     ensures { IfOk result (λ code. MatchOption code
         (¬ IsCode text.now) (λ c. IsCodeOf c.kind c.number text.now)) }
 {
@@ -322,7 +322,7 @@ pub fn read_code(alloc: Global, text: &str) -> Result<Option<Code>, AllocError>
         return Ok(Some(code));
     }
     match load_byte(alloc, text)? {
-        Some(number) => Ok(Some(Code {
+        Some(number) => Ok(Some(TopicCode {
             kind: CodeKind::Load,
             number,
         })),

@@ -3,11 +3,11 @@
 ghost use Rattle.std.specs.Prelude.{◌≡◌, [], IfErr, IfOk, OnOk, false, string_bytes};
 ghost use Rattle.job_parts.specs.Matched.{app_of, fields_of};
 ghost use Rattle.bpf.specs.Program.{insn_at};
-ghost use Rattle.bpf.specs.Reading.{Fails, image_reading};
+ghost use Rattle.bpf.specs.Reading.{FailsReading, image_reading};
 ghost use Rattle.job_parts.specs.Printed.{Prints};
-ghost use Rattle.job_parts.specs.Reading.{IsUnread};
+ghost use Rattle.job_parts.specs.Reading.{IsFileUnread};
 ghost use Rattle.job_parts.specs.Stops.{StopsBy};
-ghost use Rattle.job_codes.specs.Explained.{ExplainsBytes, ExplainsFile, ExplainsProgram, TellsNoImage, TellsRefusal, cause_line, insn_line, weight_line};
+ghost use Rattle.job_codes.specs.Explained.{ExplainsBytes, ExplainsFile, ExplainsProgram, PrintsNoImage, PrintsRefusal, cause_line, insn_line, weight_line};
 ghost use Rattle.job_codes.specs.WhyJob.{why_app};
 ghost use Rattle.job_texts.specs.Needed.{IsMapsLine};
 
@@ -22,8 +22,8 @@ use job_parts::faults::Fault;
 use job_parts::forms::form_line;
 use job_parts::printing::{print_indented, print_text};
 use job_parts::programs::bytes_in;
-use job_parts::status::Status;
-use job_parts::stops::Halt;
+use job_parts::status::ExitStatus;
+use job_parts::stops::JobStop;
 use job_parts::storage::Files;
 use job_texts::checking::checked;
 use job_texts::images::{ImageArgs, verifying_command};
@@ -369,7 +369,7 @@ fn print_refusal<W: Write>(
     reason: &str,
 ) -> io::Result<()>
     ensures { OnOk result
-        (TellsRefusal image.now refused (W.contents out.old) (W.contents out.new)) }
+        (PrintsRefusal image.now refused (W.contents out.old) (W.contents out.new)) }
 {
     let fault = Fault::Refused(refused);
     writeln!(out, "{fault}")?;
@@ -395,7 +395,7 @@ fn explain_program<W: Write>(
     image: &Image,
     sizes: &MapSizes,
     out: &mut W,
-) -> io::Result<Status>
+) -> io::Result<ExitStatus>
     ensures { IfOk result
         (ExplainsProgram image.now sizes.now (W.contents out.old) (W.contents out.new)) }
 {
@@ -405,13 +405,13 @@ fn explain_program<W: Write>(
         Ok(()) => {
             print_accepted(out, image.weight(), image.budget())?;
             print_text(out, maps.as_str())?;
-            Ok(Status::Done)
+            Ok(ExitStatus::Done)
         }
         Err(refused) => {
             let reason = reason_or_none(alloc, reason_of_refusal(alloc, image, refused, &known));
             print_refusal(out, image, refused, reason.as_str())?;
             print_text(out, maps.as_str())?;
-            Ok(Status::Failed)
+            Ok(ExitStatus::Failed)
         }
     }
 }
@@ -423,8 +423,8 @@ fn explain_fault<W: Write>(
     fault: ImageFault,
     out: &mut W,
 ) -> io::Result<()>
-    requires { Fails fault (image_reading bytes.now) }
-    ensures { OnOk result (TellsNoImage bytes.now (W.contents out.old) (W.contents out.new)) }
+    requires { FailsReading fault (image_reading bytes.now) }
+    ensures { OnOk result (PrintsNoImage bytes.now (W.contents out.old) (W.contents out.new)) }
 {
     let form = form_line(alloc, bytes);
     let reason = reason_or_none(alloc, reason_of_fault(alloc, fault));
@@ -441,7 +441,7 @@ fn explain_bytes<W: Write>(
     bytes: &[u8],
     sizes: &MapSizes,
     out: &mut W,
-) -> io::Result<Status>
+) -> io::Result<ExitStatus>
     ensures { IfOk result
         (ExplainsBytes bytes.now sizes.now (W.contents out.old) (W.contents out.new)) }
 {
@@ -449,7 +449,7 @@ fn explain_bytes<W: Write>(
         Ok(image) => explain_program(alloc, &image, sizes, out),
         Err(fault) => {
             explain_fault(alloc, bytes, fault, out)?;
-            Ok(Status::Failed)
+            Ok(ExitStatus::Failed)
         }
     }
 }
@@ -466,11 +466,11 @@ pub fn why_file<'a, F: Files, W: Write>(
     args: &'a ImageArgs,
     files: &mut F,
     out: &mut W,
-) -> Result<Status, Halt<'a>>
+) -> Result<ExitStatus, JobStop<'a>>
     ensures done { IfOk result (ExplainsFile F.reads args.now files.old files.new
         (W.contents out.old) (W.contents out.new)) }
     ensures stops { IfErr result
-        (StopsBy (IsUnread F.reads files.old (string_bytes args.now.image) files.new)) }
+        (StopsBy (IsFileUnread F.reads files.old (string_bytes args.now.image) files.new)) }
     ensures quiet { IfErr result (StopsBy (λ _. W.contents out.new ≡ W.contents out.old)) }
 {
     let bytes = bytes_in(alloc, files, args.image.as_str())?;

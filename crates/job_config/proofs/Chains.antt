@@ -2,18 +2,18 @@
 use Rattle.std.proofs.Common.{◌++◌, ◌∷◌, [], ℕ, IfErr, IfOk, List, MatchResult, Option, Result, Ok, Err, Some, None, inl, inr, refl, subst}
 use Rattle.bpf.specs.Program.{Program}
 use Rattle.machine.specs.Sizes.{Maps}
-use Rattle.job_parts.specs.Files.{HoldsNoText, Reads}
+use Rattle.job_parts.specs.Files.{HoldsNoText, ReadsFile}
 use Rattle.job_parts.specs.Given.{HoldsNoProgram, HoldsProgram}
 use Rattle.job_parts.specs.declared.faults.Fault.{Fault}
 use Rattle.job_config.specs.Reads.{AreRead, SomeRead}
 
-module _ {S : Type 0} (reads : Reads S) where
+module _ {S : Type 0} (reads : ReadsFile S) where
   -- files that are read after others
-  read_behind : (first next : List (List ℕ × Option (List ℕ))) (before middle after : S) → AreRead reads first before middle
+  read_after : (first next : List (List ℕ × Option (List ℕ))) (before middle after : S) → AreRead reads first before middle
       → AreRead reads next middle after → AreRead reads (first ++ next) before after
-  read_behind [] next before middle after same read = subst (λ (s : S). AreRead reads next s after) same read
-  read_behind (r ∷ rs) next before middle after (state, one, others) read =
-      (state, one, read_behind rs next state middle after others read)
+  read_after [] next before middle after same read = subst (λ (s : S). AreRead reads next s after) same read
+  read_after (r ∷ rs) next before middle after (state, one, others) read =
+      (state, one, read_after rs next state middle after others read)
 
   -- one file was read
   pub one_read : (name : List ℕ) (given : Option (List ℕ)) (before after : S) → reads before name given after
@@ -24,7 +24,7 @@ module _ {S : Type 0} (reads : Reads S) where
   pub some_read : (before middle after : S) → SomeRead reads before middle → SomeRead reads middle after
       → SomeRead reads before after
   some_read before middle after (first, one) (next, other) =
-      (first ++ next, read_behind first next before middle after one other)
+      (first ++ next, read_after first next before middle after one other)
 
   -- a program was read, or there is no file
   pub program_read : (name : Option (List ℕ)) (p : Program) (before after : S) → HoldsProgram reads before name p after

@@ -8,11 +8,11 @@ use Rattle.toml.specs.Data.{Items, item}
 use Rattle.toml.specs.View.{items_view, view}
 use Rattle.toml.specs.declared.value.Value.{Value}
 use Rattle.toml.proofs.Views.{items_view-drop}
-use Rattle.job_parts.specs.Files.{Reads}
+use Rattle.job_parts.specs.Files.{ReadsFile}
 use Rattle.job_config.specs.OwnNodes.{fit}
 use Rattle.job_config.specs.Places.{place}
-use Rattle.job_config.specs.Reads.{BeginWith, BeginsWith, HoldPublishes, HoldsPublish}
-use Rattle.job_config.specs.declared.places.Kind.TheVariants.{Bank, Publish}
+use Rattle.job_config.specs.Reads.{BeginWith, BeginsBank, HoldPublishes, HoldsPublish}
+use Rattle.job_config.specs.declared.places.TableKind.TheVariants.{Bank, Publish}
 
 -- nothing is left past the end
 drop_past : {A : Type 0} (xs : List A) (n : ℕ) → length xs ≤ n → drop n xs ≡ []
@@ -35,7 +35,7 @@ pub fit_further : (banks : List BankConfig) (contents all : List (List ℕ)) (in
 fit_further banks contents all index d bytes in_banks is fits short =
     rw (take_more banks index d in_banks, is) (fit_more (take index banks) contents (get_or banks index d) bytes fits short)
 
-module _ {S : Type 0} (reads : Reads S) (file : List ℕ) where
+module _ {S : Type 0} (reads : ReadsFile S) (file : List ℕ) where
   -- what was read of the banks so far goes on by what is read of the others
   abbrev pub GoesOn : (list : List Value) (banks : List BankConfig) (index : ℕ) (before now : S) → List (List ℕ) → Type 0
   GoesOn list banks index before now contents = (others : List (List ℕ)) (after : S)
@@ -46,7 +46,7 @@ module _ {S : Type 0} (reads : Reads S) (file : List ℕ) where
   pub goes_further : (list : List Value) (banks : List BankConfig) (index : ℕ) (before now next : S) (contents all : List (List ℕ))
       (value : Value) (d : BankConfig) (bytes : List ℕ) → index < length list → index < length banks
       → get_or list index value ≡ value → all ≡ contents ++ bytes ∷ []
-      → BeginsWith reads file (place Bank index) (view value) (get_or banks index d).size now bytes next
+      → BeginsBank reads file (place Bank index) (view value) (get_or banks index d).size now bytes next
       → GoesOn list banks index before now contents → GoesOn list banks (index + 1) before next all
   goes_further list banks index before now next contents all value d bytes in_list in_banks at_value is begins so_far = λ others after more.
       let items : items_view (drop index list) ≡ item (view value) (items_view (drop (index + 1) list)) =

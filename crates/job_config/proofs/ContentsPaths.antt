@@ -5,7 +5,7 @@ use Rattle.toml.specs.Data.{Items, item}
 use Rattle.toml.specs.View.{items_view, view}
 use Rattle.toml.specs.declared.value.Value.{Value}
 use Rattle.toml.proofs.Views.{items_view-drop}
-use Rattle.job_config.specs.ContentsNamed.{ArePathsIn, ArePathsWith, IsAdded, contents_name}
+use Rattle.job_config.specs.ContentsNamed.{ArePathsIn, ArePathsWith, IsPathAdded, contents_name}
 
 module _ (file : List ℕ) where
   -- the paths so far go on by those of the other banks
@@ -14,7 +14,7 @@ module _ (file : List ℕ) where
       → ArePathsIn file (items_view list) (paths ++ others)
 
   -- what the next bank adds is the first of the others, if it adds one
-  with_next : (name : Option (List ℕ)) (rest : Items) (paths all others : List (List ℕ)) → IsAdded file name paths all
+  with_next : (name : Option (List ℕ)) (rest : Items) (paths all others : List (List ℕ)) → IsPathAdded file name paths all
       → ArePathsIn file rest others
       → (next : List (List ℕ)) × ArePathsWith file name (ArePathsIn file rest) next × (paths ++ next ≡ all ++ others)
   with_next None rest paths all others is are = (others, are, ap (λ (p : List (List ℕ)). p ++ others) (sym is))
@@ -24,7 +24,7 @@ module _ (file : List ℕ) where
 
   -- the next bank
   pub paths_go_further : (list : List Value) (index : ℕ) (paths all : List (List ℕ)) (value : Value) → index < length list
-      → get_or list index value ≡ value → IsAdded file (contents_name (view value)) paths all → PathsGoOn list index paths
+      → get_or list index value ≡ value → IsPathAdded file (contents_name (view value)) paths all → PathsGoOn list index paths
       → PathsGoOn list (index + 1) all
   paths_go_further list index paths all value in_list at_value added so_far = λ others are.
       let items : items_view (drop index list) ≡ item (view value) (items_view (drop (index + 1) list)) =

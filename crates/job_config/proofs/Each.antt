@@ -10,7 +10,7 @@ use Rattle.job_config.specs.Faults.{◌>>=◌}
 use Rattle.job_config.specs.OwnNodes.{own_bank}
 use Rattle.job_config.specs.declared.faults.ConfigFault.{ConfigFault}
 use Rattle.job_config.specs.declared.faults.ConfigFault.TheVariants.{BadCount}
-use Rattle.job_config.specs.declared.places.Kind.TheVariants.{Bank}
+use Rattle.job_config.specs.declared.places.TableKind.TheVariants.{Bank}
 
 -- how many items a list of values is
 pub count_view : (values : List Value) → count (items_view values) ≡ length values

@@ -6,7 +6,7 @@ use Rattle.job_config.specs.Configured.{list_at}
 use Rattle.job_config.specs.Names.{IsBeside}
 use Rattle.job_config.specs.Places.{name_word}
 use Rattle.job_config.specs.declared.faults.ConfigFault.{ConfigFault}
-use Rattle.job_config.specs.declared.places.Kind.TheVariants.{Bank}
+use Rattle.job_config.specs.declared.places.TableKind.TheVariants.{Bank}
 use Rattle.job_config.specs.declared.places.NameKey.TheVariants.{Contents}
 
 -- the text that a value is, if there is one
@@ -15,19 +15,19 @@ text_of None = None
 text_of (Some value) = as_str value
 
 -- the name of the file that the bank of a table begins with, if it has one
-abbrev pub name_in : Option Members → Option (List ℕ)
-name_in None = None
-name_in (Some table) = text_of (get_member (name_word Contents) table)
+abbrev pub name_of_contents : Option Members → Option (List ℕ)
+name_of_contents None = None
+name_of_contents (Some table) = text_of (get_member (name_word Contents) table)
 
 -- the same of the value that a bank is
 abbrev pub contents_name : Data → Option (List ℕ)
-contents_name bank = name_in (as_table bank)
+contents_name bank = name_of_contents (as_table bank)
 
 module _ (file : List ℕ) where
   -- the path of the file of that name was added, if there is one
-  abbrev pub IsAdded : (name : Option (List ℕ)) → (old new : List (List ℕ)) → Type 0
-  IsAdded None old new = new ≡ old
-  IsAdded (Some name) old new = (path : List ℕ) × IsBeside file name path × (new ≡ old ++ path ∷ [])
+  abbrev pub IsPathAdded : (name : Option (List ℕ)) → (old new : List (List ℕ)) → Type 0
+  IsPathAdded None old new = new ≡ old
+  IsPathAdded (Some name) old new = (path : List ℕ) × IsBeside file name path × (new ≡ old ++ path ∷ [])
 
   -- the path of the file of that name, if there is one, and then those that are left
   abbrev pub ArePathsWith : (name : Option (List ℕ)) → (AreLeft : List (List ℕ) → Type 0) → List (List ℕ) → Type 0

@@ -5,21 +5,21 @@ use Rattle.toml.specs.Data.{Data, Members, as_str, get_member}
 use Rattle.job_config.specs.declared.faults.ConfigFault.{ConfigFault}
 use Rattle.job_config.specs.declared.faults.ConfigFault.TheVariants.{NoName}
 use Rattle.job_config.specs.declared.places.NameKey.{NameKey}
-use Rattle.job_config.specs.declared.places.Place.{Place}
+use Rattle.job_config.specs.declared.places.TablePlace.{TablePlace}
 use Rattle.job_config.specs.Places.{name_word}
 
 -- the name that a value is
-abbrev pub name_of : Place → NameKey → Option (List ℕ) → Result (Option (List ℕ)) ConfigFault
-name_of place key None = Err (NoName place key)
-name_of place key (Some name) = Ok (Some name)
+abbrev pub name_of_value : TablePlace → NameKey → Option (List ℕ) → Result (Option (List ℕ)) ConfigFault
+name_of_value place key None = Err (NoName place key)
+name_of_value place key (Some name) = Ok (Some name)
 
 -- the name at a key, if something is there
-abbrev pub name_from : Place → NameKey → Option Data → Result (Option (List ℕ)) ConfigFault
+abbrev pub name_from : TablePlace → NameKey → Option Data → Result (Option (List ℕ)) ConfigFault
 name_from place key None = Ok None
-name_from place key (Some value) = name_of place key (as_str value)
+name_from place key (Some value) = name_of_value place key (as_str value)
 
 -- the name that a key of a table holds, if the table has the key
-abbrev pub name_at : Members → Place → NameKey → Result (Option (List ℕ)) ConfigFault
+abbrev pub name_at : Members → TablePlace → NameKey → Result (Option (List ℕ)) ConfigFault
 name_at table place key = name_from place key (get_member (name_word key) table)
 
 -- the folder of a file: all before the last slash of its name, if it has one

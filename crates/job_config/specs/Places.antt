@@ -1,23 +1,23 @@
 -- Where something is in a node's file, and the keys that are there.
 use Rattle.std.specs.Prelude.{ℕ, List, [], Bool, ◌||◌, codes}
 use Rattle.std.specs.Str.{bytes_eq}
-use Rattle.job_config.specs.declared.places.Kind.{Kind}
-use Rattle.job_config.specs.declared.places.Kind.TheVariants.{Node, Bank, Map, Publish}
+use Rattle.job_config.specs.declared.places.TableKind.{TableKind}
+use Rattle.job_config.specs.declared.places.TableKind.TheVariants.{Node, Bank, Map, Publish}
 use Rattle.job_config.specs.declared.places.NameKey.{NameKey}
 use Rattle.job_config.specs.declared.places.NameKey.TheVariants.{Contents, Program, Image}
 use Rattle.job_config.specs.declared.places.NumberKey.{NumberKey}
 use Rattle.job_config.specs.declared.places.NumberKey.TheVariants.{Address, Ports, Base, Size, Journal, Cells, Slot}
-use Rattle.job_config.specs.declared.places.Place.{Place}
+use Rattle.job_config.specs.declared.places.TablePlace.{TablePlace}
 
 -- the key under which the file has tables of the kind
-abbrev pub kind_word : Kind → List ℕ
-kind_word Node = []
-kind_word Bank = codes "bank"
-kind_word Map = codes "map"
-kind_word Publish = codes "publish"
+abbrev pub kind_key : TableKind → List ℕ
+kind_key Node = []
+kind_key Bank = codes "bank"
+kind_key Map = codes "map"
+kind_key Publish = codes "publish"
 
 -- whether a table of the kind may have the key
-abbrev pub knows : Kind → List ℕ → Bool
+abbrev pub knows : TableKind → List ℕ → Bool
 knows Node key =
     bytes_eq key (codes "address") || bytes_eq key (codes "bank") || bytes_eq key (codes "map")
     || bytes_eq key (codes "ports") || bytes_eq key (codes "program") || bytes_eq key (codes "publish")
@@ -44,5 +44,5 @@ name_word Program = codes "program"
 name_word Image = codes "image"
 
 -- the table of that number among those of its kind
-abbrev pub place : Kind → ℕ → Place
+abbrev pub place : TableKind → ℕ → TablePlace
 place kind number = record { kind = kind; number = number }

@@ -7,7 +7,7 @@ use Rattle.node_parts.specs.declared.config.BankConfig.{BankConfig}
 use Rattle.rmap.specs.declared.boot.TheConstants.{STAGING_SIZE}
 use Rattle.toml.specs.Data.{Data, Items, no_items, item, Members}
 use Rattle.toml.specs.Parse.{parse_document}
-use Rattle.job_parts.specs.Files.{Reads}
+use Rattle.job_parts.specs.Files.{ReadsFile}
 use Rattle.bpf.specs.Program.{IsProgram, image_bytes}
 use Rattle.job_parts.specs.Factory.{factory}
 use Rattle.job_parts.specs.Reading.{TextUnread}
@@ -18,53 +18,53 @@ use Rattle.job_parts.specs.declared.node_codes.NodeCode.{NodeCode}
 use Rattle.job_parts.specs.declared.node_codes.NodeCode.TheVariants.{Text}
 use Rattle.job_config.specs.Configured.{ConfigurationValue, IsBadConfiguration, IsConfiguration, configuration_at}
 use Rattle.job_config.specs.Configured.{items_in, list_at, own_place, table_in}
-use Rattle.job_config.specs.Faults.{code_of}
+use Rattle.job_config.specs.Faults.{code_of_fault}
 use Rattle.job_config.specs.Names.{IsBeside, name_at}
-use Rattle.job_config.specs.Numbers.{number_at}
+use Rattle.job_config.specs.Numbers.{number_at_key}
 use Rattle.job_config.specs.OwnNodes.{OwnNodeValue}
 use Rattle.job_config.specs.Places.{place}
 use Rattle.job_config.specs.declared.configuration.Configuration.{Configuration}
 use Rattle.job_config.specs.declared.faults.ConfigFault.{ConfigFault}
 use Rattle.job_config.specs.declared.faults.ConfigFault.TheVariants.{Memory}
-use Rattle.job_config.specs.declared.places.Kind.TheVariants.{Bank, Publish}
+use Rattle.job_config.specs.declared.places.TableKind.TheVariants.{Bank, Publish}
 use Rattle.job_config.specs.declared.places.NameKey.TheVariants.{Contents, Program, Image}
 use Rattle.job_config.specs.declared.places.NumberKey.TheVariants.{Slot}
-use Rattle.job_config.specs.declared.places.Place.{Place}
+use Rattle.job_config.specs.declared.places.TablePlace.{TablePlace}
 
 -- the numbers of a node
-abbrev pub numbers_of : OwnNodeValue → ConfigurationValue
-numbers_of own = record { address = own.address; ports = own.ports; banks = own.banks; sizes = own.sizes }
+abbrev pub node_numbers_of : OwnNodeValue → ConfigurationValue
+node_numbers_of own = record { address = own.address; ports = own.ports; banks = own.banks; sizes = own.sizes }
 
 -- why a text is no table: memory was refused, or it is no TOML
-abbrev pub IsNoTable : (text : List ℕ) → ConfigFault → Type 0
-IsNoTable text fault = (fault ≡ Memory) ⊎ ((parse_document text ≡ None) × (code_of fault ≡ Some Text))
+abbrev pub IsNoToml : (text : List ℕ) → ConfigFault → Type 0
+IsNoToml text fault = (fault ≡ Memory) ⊎ ((parse_document text ≡ None) × (code_of_fault fault ≡ Some Text))
 
 -- why a text is no configuration: memory was refused, or it is no TOML, or its table is none
 abbrev pub IsBadText : (text : List ℕ) → ConfigFault → Type 0
 IsBadText text fault =
-    IsNoTable text fault ⊎ ((table : Members) × (parse_document text ≡ Some table) × IsBadConfiguration table fault)
+    IsNoToml text fault ⊎ ((table : Members) × (parse_document text ≡ Some table) × IsBadConfiguration table fault)
 
 -- what ends a job for that fault: its code is printed, except if memory was refused
-abbrev pub Ends : Option NodeCode → Fault → Type 0
-Ends None end = end ≡ NoMemory
-Ends (Some code) NoMemory = Unit {0}
-Ends (Some code) (BadNode told place) = told ≡ code
-Ends (Some code) (CannotRead name) = ⊥
-Ends (Some code) (CannotWrite name) = ⊥
-Ends (Some code) Damaged = ⊥
-Ends (Some code) (BadText fault) = ⊥
-Ends (Some code) (BadTable fault) = ⊥
-Ends (Some code) (BadImage fault) = ⊥
-Ends (Some code) (Refused refused) = ⊥
-Ends (Some code) (BadLine number fault) = ⊥
+abbrev pub EndsForFault : Option NodeCode → Fault → Type 0
+EndsForFault None end = end ≡ NoMemory
+EndsForFault (Some code) NoMemory = Unit {0}
+EndsForFault (Some code) (BadNode reported place) = reported ≡ code
+EndsForFault (Some code) (CannotRead name) = ⊥
+EndsForFault (Some code) (CannotWrite name) = ⊥
+EndsForFault (Some code) Damaged = ⊥
+EndsForFault (Some code) (BadText fault) = ⊥
+EndsForFault (Some code) (BadTable fault) = ⊥
+EndsForFault (Some code) (BadImage fault) = ⊥
+EndsForFault (Some code) (Refused refused) = ⊥
+EndsForFault (Some code) (BadLine number fault) = ⊥
 
 -- the job ends for a fault with this property
-pub record EndsBy (end : Fault) (bad : ConfigFault → Type 0) : Type 0 where
+pub record EndsBySaid (end : Fault) (bad : ConfigFault → Type 0) : Type 0 where
   pub fault : ConfigFault
   pub is_bad : bad fault
-  pub ends : Ends (code_of fault) end
+  pub ends : EndsForFault (code_of_fault fault) end
 
-module _ {S : Type 0} (reads : Reads S) where
+module _ {S : Type 0} (reads : ReadsFile S) where
   -- these files were read in this order, and gave these bytes or none
   abbrev pub AreRead : List (List ℕ × Option (List ℕ)) → (before after : S) → Type 0
   AreRead [] before after = after ≡ before
@@ -86,7 +86,7 @@ module _ {S : Type 0} (reads : Reads S) where
   abbrev pub IsBadNode : (text : List ℕ) → (before : S) → ConfigFault → (after : S) → Type 0
   IsBadNode text before fault after = (IsBadText text fault × (after ≡ before)) ⊎ IsBadBeside text before fault after
 
-module _ {S : Type 0} (reads : Reads S) (file : List ℕ) where
+module _ {S : Type 0} (reads : ReadsFile S) (file : List ℕ) where
   -- the file of that name beside the node's was read, and gave these bytes, at most `most`
   pub record HoldsBeside (name : List ℕ) (most : ℕ) (before : S) (bytes : List ℕ) (after : S) : Type 0 where
     pub path : List ℕ
@@ -100,7 +100,7 @@ module _ {S : Type 0} (reads : Reads S) (file : List ℕ) where
   HoldsNamed (Some name) most before bytes after = HoldsBeside name most before bytes after
 
   -- the bank of that size begins with these bytes, by its table
-  pub record BeginsWith (at : Place) (value : Data) (size : ℕ) (before : S) (bytes : List ℕ) (after : S) : Type 0 where
+  pub record BeginsBank (at : TablePlace) (value : Data) (size : ℕ) (before : S) (bytes : List ℕ) (after : S) : Type 0 where
     pub table : Members
     pub name : Option (List ℕ)
     pub is_table : table_in value at ≡ Ok table
@@ -113,7 +113,7 @@ module _ {S : Type 0} (reads : Reads S) (file : List ℕ) where
   BeginWith number no_items (bank ∷ banks) before contents after = ⊥
   BeginWith number (item value items) (bank ∷ banks) before [] after = ⊥
   BeginWith number (item value items) (bank ∷ banks) before (bytes ∷ contents) after =
-      (middle : S) × BeginsWith (place Bank number) value bank.size before bytes middle
+      (middle : S) × BeginsBank (place Bank number) value bank.size before bytes middle
       × BeginWith (number + 1) items banks middle contents after
 
   -- each of the banks begins with these bytes; the one bank of a file without banks with none
@@ -139,16 +139,16 @@ module _ {S : Type 0} (reads : Reads S) (file : List ℕ) where
     pub safe : IsSafe program.program program.sizes
 
   -- the program of the image that a table names, for which the staging would have room
-  pub record HoldsImageAt (at : Place) (table : Members) (before : S) (program : AcceptedValue) (after : S) : Type 0 where
+  pub record HoldsImageAt (at : TablePlace) (table : Members) (before : S) (program : AcceptedValue) (after : S) : Type 0 where
     pub name : List ℕ
     pub named : name_at table at Image ≡ Ok (Some name)
     pub held : HoldsProgramOf name STAGING_SIZE before program after
 
   -- the publish of a table: its slot, and the program of its image
-  pub record HoldsPublish (at : Place) (value : Data) (before : S) (publish : ℕ × AcceptedValue) (after : S) : Type 0 where
+  pub record HoldsPublish (at : TablePlace) (value : Data) (before : S) (publish : ℕ × AcceptedValue) (after : S) : Type 0 where
     pub table : Members
     pub is_table : table_in value at ≡ Ok table
-    pub slot : number_at table at Slot 0 3 ≡ Ok publish.0
+    pub slot : number_at_key table at Slot 0 3 ≡ Ok publish.0
     pub image : HoldsImageAt at table before publish.1 after
 
   -- the publishes of a list of tables, in this order, after that number of them
@@ -184,7 +184,7 @@ module _ {S : Type 0} (reads : Reads S) (file : List ℕ) where
       Type 0 where
     pub filled : S
     pub judged : S
-    pub configured : configuration_at table ≡ Ok (numbers_of own)
+    pub configured : configuration_at table ≡ Ok (node_numbers_of own)
     pub banks : HoldsBanks table own.banks before own.contents filled
     pub first : HoldsFirst table filled program judged
     pub sizes : program.sizes ≡ own.sizes
@@ -218,7 +218,7 @@ module _ {S : Type 0} (reads : Reads S) (file : List ℕ) where
     pub read : reads before file (Some text) after
     pub utf8 : IsUtf8 text
     pub bad : IsBadText text fault
-    pub ends : Ends (code_of fault) end
+    pub ends : EndsForFault (code_of_fault fault) end
 
   -- the node's file says no configuration: it cannot be read, or it is bad
   abbrev pub ReadsNoConfiguration : (before : S) → Fault → (after : S) → Type 0
@@ -233,7 +233,7 @@ module _ {S : Type 0} (reads : Reads S) (file : List ℕ) where
     pub read : reads before file (Some text) begun
     pub utf8 : IsUtf8 text
     pub bad : IsBadNode reads text begun fault after
-    pub ends : Ends (code_of fault) end
+    pub ends : EndsForFault (code_of_fault fault) end
     pub only_reads : SomeRead reads before after
 
   -- there is no node of the node's file: it cannot be read, or it is bad

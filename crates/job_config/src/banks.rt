@@ -9,9 +9,9 @@ ghost use Rattle.std.specs.List.{list_all};
 ghost use Rattle.toml.specs.View.{items_view, table_view, view};
 
 use crate::faults::ConfigFault;
-use crate::numbers::number_at;
+use crate::numbers::number_at_key;
 use crate::own_node::OWN_BANK;
-use crate::places::{Kind, NumberKey, Place};
+use crate::places::{TableKind, NumberKey, TablePlace};
 use crate::tables::{list_at, table_in};
 use bank::{MAX_ROOM, MAX_SIZE};
 use node_parts::BankConfig;
@@ -23,9 +23,9 @@ use toml::{Table, Value};
 pub(crate) fn greatest_size(base: u32) -> u32
     ensures { result ≡ greatest_size base }
 {
-    let behind = u32::MAX - base;
-    if behind < MAX_SIZE {
-        behind + 1
+    let following = u32::MAX - base;
+    if following < MAX_SIZE {
+        following + 1
     } else {
         MAX_SIZE
     }
@@ -37,14 +37,14 @@ fn bank_in(item: &Value, number: usize) -> Result<BankConfig, ConfigFault>
     ensures value { result ≡ bank_in number (view item.now) }
     ensures within { IfOk result (λ bank. is_within bank ≡ true) }
 {
-    let place = Place {
-        kind: Kind::Bank,
+    let place = TablePlace {
+        kind: TableKind::Bank,
         number,
     };
     let table = table_in(item, place)?;
-    let base = number_at(table, place, NumberKey::Base, 0, u32::MAX)?;
-    let size = number_at(table, place, NumberKey::Size, 1, greatest_size(base))?;
-    let room = number_at(table, place, NumberKey::Journal, 1, MAX_ROOM)?;
+    let base = number_at_key(table, place, NumberKey::Base, 0, u32::MAX)?;
+    let size = number_at_key(table, place, NumberKey::Size, 1, greatest_size(base))?;
+    let room = number_at_key(table, place, NumberKey::Journal, 1, MAX_ROOM)?;
     Ok(BankConfig { base, size, room })
 }
 
@@ -91,13 +91,13 @@ pub fn banks_of(alloc: Global, table: &Table) -> Result<Vec<BankConfig>, ConfigF
     ensures err { IfErr result (IsFaultOf (banks_at (table_view table.now))) }
     ensures within { IfOk result (λ banks. are_within banks.items ≡ true) }
 {
-    let Some(list) = list_at(table, Kind::Bank)? else {
+    let Some(list) = list_at(table, TableKind::Bank)? else {
         return Ok(own_banks(alloc)?);
     };
     let count = list.len();
     if !is_count(count) {
         return Err(ConfigFault::BadCount {
-            kind: Kind::Bank,
+            kind: TableKind::Bank,
             count,
         });
     }

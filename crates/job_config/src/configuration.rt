@@ -56,7 +56,7 @@ impl Configuration {
 ///
 /// The first fault, in this order: an unknown key, the address, the ports, the banks, the maps. `Memory` if memory was
 /// refused.
-#[tactic(auto, unfolding(crate::specs::Configured::numbers_at))]
+#[tactic(auto, unfolding(crate::specs::Configured::node_numbers_at))]
 pub fn configuration_of(alloc: Global, table: &Table) -> Result<Configuration, ConfigFault>
     ensures says { IfOk result (IsConfiguration (table_view table.now)) }
     ensures bad { IfErr result (IsBadConfiguration (table_view table.now)) }

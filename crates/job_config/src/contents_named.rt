@@ -1,11 +1,11 @@
 //! The files that banks begin with, by their names in a node's file.
 
 ghost use Rattle.std.specs.Prelude.{◌≡◌, IfOk, OnOk, map, option_map, string_bytes};
-ghost use Rattle.job_config.specs.ContentsNamed.{AreContentsPaths, ArePathsIn, IsAdded, contents_name};
+ghost use Rattle.job_config.specs.ContentsNamed.{AreContentsPaths, ArePathsIn, IsPathAdded, contents_name};
 ghost use Rattle.toml.specs.View.{items_view, view};
 
 use crate::names::beside;
-use crate::places::{Kind, NameKey};
+use crate::places::{TableKind, NameKey};
 use crate::tables::{held, list_at};
 use std::alloc::{AllocError, Global};
 use toml::Value;
@@ -25,7 +25,7 @@ fn add_path(
     bank: &Value,
     paths: &mut Vec<String>,
 ) -> Result<(), AllocError>
-    ensures { OnOk result (IsAdded file.now (contents_name (view bank.now))
+    ensures { OnOk result (IsPathAdded file.now (contents_name (view bank.now))
         (map string_bytes paths.old.items) (map string_bytes paths.new.items)) }
 {
     if let Some(name) = named_in(bank) {
@@ -64,7 +64,7 @@ pub fn contents_paths(alloc: Global, file: &str, text: &str) -> Result<Vec<Strin
             };
         }
     };
-    match list_at(&table, Kind::Bank) {
+    match list_at(&table, TableKind::Bank) {
         Ok(Some(list)) => paths_in(alloc, file, list),
         Ok(None) | Err(_) => Ok(Vec::new(alloc)),
     }

@@ -4,11 +4,11 @@ ghost use Rattle.job_config.specs.Reads.{SomeRead};
 
 use crate::banks::{greatest_size, is_count};
 use crate::configuration::{Configuration, configuration_of};
-use crate::faults::{ConfigFault, Word};
-use crate::maps::kind_of;
-use crate::numbers::{number_at, number_or};
+use crate::faults::{ConfigFault, NameWord};
+use crate::maps::configured_kind_of;
+use crate::numbers::{number_at_key, number_or};
 use crate::own_node::{LEAST_ADDRESS, MOST_ADDRESS, NODE_ADDRESS};
-use crate::places::{Kind, NumberKey, Place};
+use crate::places::{TableKind, NumberKey, TablePlace};
 use crate::reading::{contents_in, first_program, image_in, slot_in};
 use crate::tables::{OWN, held, list_at, table_in};
 use bank::MAX_ROOM;
@@ -74,10 +74,10 @@ impl<'a> Faults<'a> {
     }
 
     /// Adds each key that a table may not have, by the bytes of keys.
-    fn note_table(&mut self, alloc: Global, table: &Table, place: Place) -> Result<(), AllocError> {
+    fn note_table(&mut self, alloc: Global, table: &Table, place: TablePlace) -> Result<(), AllocError> {
         for (key, _value) in table.iter() {
             if !place.kind.knows(key.as_str()) {
-                let key = Word::new(alloc, key.as_str())?;
+                let key = NameWord::new(alloc, key.as_str())?;
                 self.add(&ConfigFault::UnknownKey { place, key })?;
             }
         }
@@ -85,17 +85,17 @@ impl<'a> Faults<'a> {
     }
 
     /// Adds each key that a table of a list may not have.
-    fn note_tables(&mut self, alloc: Global, list: &[Value], kind: Kind) -> Result<(), AllocError> {
+    fn note_tables(&mut self, alloc: Global, list: &[Value], kind: TableKind) -> Result<(), AllocError> {
         for number in 0..list.len() {
             if let Some(table) = list[number].as_table() {
-                self.note_table(alloc, table, Place { kind, number })?;
+                self.note_table(alloc, table, TablePlace { kind, number })?;
             }
         }
         Ok(())
     }
 
     /// Adds each key that a table of a kind may not have.
-    fn note_kind(&mut self, alloc: Global, table: &Table, kind: Kind) -> Result<(), AllocError> {
+    fn note_kind(&mut self, alloc: Global, table: &Table, kind: TableKind) -> Result<(), AllocError> {
         let Some(value) = held(table, kind.word()) else {
             return Ok(());
         };
@@ -108,62 +108,62 @@ impl<'a> Faults<'a> {
     /// Adds each key that no node has: of the node's own table, then of banks, maps and publishes.
     fn note_keys(&mut self, alloc: Global, table: &Table) -> Result<(), AllocError> {
         self.note_table(alloc, table, OWN)?;
-        self.note_kind(alloc, table, Kind::Bank)?;
-        self.note_kind(alloc, table, Kind::Map)?;
-        self.note_kind(alloc, table, Kind::Publish)
+        self.note_kind(alloc, table, TableKind::Bank)?;
+        self.note_kind(alloc, table, TableKind::Map)?;
+        self.note_kind(alloc, table, TableKind::Publish)
     }
 
     /// Adds what is wrong with the table of a bank. Without a base its size may be what it is at 0.
-    fn note_bank(&mut self, item: &Value, place: Place) -> Result<(), AllocError> {
+    fn note_bank(&mut self, item: &Value, place: TablePlace) -> Result<(), AllocError> {
         let Some(table) = self.note(table_in(item, place))? else {
             return Ok(());
         };
-        let base = self.note(number_at(table, place, NumberKey::Base, 0, u32::MAX))?;
+        let base = self.note(number_at_key(table, place, NumberKey::Base, 0, u32::MAX))?;
         let most = greatest_size(base.unwrap_or(0));
-        self.note(number_at(table, place, NumberKey::Size, 1, most))?;
-        self.note(number_at(table, place, NumberKey::Journal, 1, MAX_ROOM))?;
+        self.note(number_at_key(table, place, NumberKey::Size, 1, most))?;
+        self.note(number_at_key(table, place, NumberKey::Journal, 1, MAX_ROOM))?;
         Ok(())
     }
 
     /// Adds what is wrong with the banks.
     fn note_banks(&mut self, table: &Table) -> Result<(), AllocError> {
-        let Some(Some(list)) = self.note(list_at(table, Kind::Bank))? else {
+        let Some(Some(list)) = self.note(list_at(table, TableKind::Bank))? else {
             return Ok(());
         };
-        let (kind, count) = (Kind::Bank, list.len());
+        let (kind, count) = (TableKind::Bank, list.len());
         if !is_count(count) {
             self.add(&ConfigFault::BadCount { kind, count })?;
         }
         for number in 0..count {
-            self.note_bank(&list[number], Place { kind, number })?;
+            self.note_bank(&list[number], TablePlace { kind, number })?;
         }
         Ok(())
     }
 
     /// Adds what is wrong with the table of a map. `left` cells are left before it; returns how many are left after it.
-    fn note_map(&mut self, item: &Value, place: Place, left: u16) -> Result<u16, AllocError> {
+    fn note_map(&mut self, item: &Value, place: TablePlace, left: u16) -> Result<u16, AllocError> {
         let Some(table) = self.note(table_in(item, place))? else {
             return Ok(left);
         };
         let most = u32::from(left);
-        let cells = self.note(number_at(table, place, NumberKey::Cells, 1, most))?;
-        self.note(kind_of(table, place))?;
+        let cells = self.note(number_at_key(table, place, NumberKey::Cells, 1, most))?;
+        self.note(configured_kind_of(table, place))?;
         let taken = u16::try_from(cells.unwrap_or(0)).unwrap_or(left);
         Ok(left.saturating_sub(taken))
     }
 
     /// Adds what is wrong with the maps.
     fn note_maps(&mut self, table: &Table) -> Result<(), AllocError> {
-        let Some(Some(list)) = self.note(list_at(table, Kind::Map))? else {
+        let Some(Some(list)) = self.note(list_at(table, TableKind::Map))? else {
             return Ok(());
         };
-        let (kind, count) = (Kind::Map, list.len());
+        let (kind, count) = (TableKind::Map, list.len());
         if count > MAX_MAPS {
             self.add(&ConfigFault::BadCount { kind, count })?;
         }
         let mut left = MAX_CELLS;
         for number in 0..count {
-            left = self.note_map(&list[number], Place { kind, number }, left)?;
+            left = self.note_map(&list[number], TablePlace { kind, number }, left)?;
         }
         Ok(())
     }
@@ -194,8 +194,8 @@ impl<'a> Faults<'a> {
         let (Some(item), Some(bank)) = (list.get(number), banks.get(number)) else {
             return Ok(());
         };
-        let kind = Kind::Bank;
-        let place = Place { kind, number };
+        let kind = TableKind::Bank;
+        let place = TablePlace { kind, number };
         let contents = contents_in(alloc, self.name, files, item, place, bank.size);
         self.note(contents)?;
         Ok(())
@@ -223,7 +223,7 @@ impl<'a> Faults<'a> {
         alloc: Global,
         files: &mut F,
         item: &Value,
-        place: Place,
+        place: TablePlace,
         sizes: MapSizes,
     ) -> Result<(), AllocError>
         ensures read { SomeRead F.reads files.old files.new }
@@ -247,9 +247,9 @@ impl<'a> Faults<'a> {
     ) -> Result<(), AllocError>
         ensures read { SomeRead F.reads files.old files.new }
     {
-        let kind = Kind::Publish;
+        let kind = TableKind::Publish;
         for number in 0..list.len() {
-            let place = Place { kind, number };
+            let place = TablePlace { kind, number };
             self.note_publish(alloc, files, &list[number], place, sizes)?;
         }
         Ok(())
@@ -265,7 +265,7 @@ impl<'a> Faults<'a> {
     ) -> Result<(), AllocError>
         ensures read { SomeRead F.reads files.old files.new }
     {
-        let Some(Some(list)) = self.note(list_at(table, Kind::Bank))? else {
+        let Some(Some(list)) = self.note(list_at(table, TableKind::Bank))? else {
             return Ok(());
         };
         self.note_contents(alloc, files, list, banks)
@@ -296,7 +296,7 @@ impl<'a> Faults<'a> {
     ) -> Result<(), AllocError>
         ensures read { SomeRead F.reads files.old files.new }
     {
-        let Some(Some(list)) = self.note(list_at(table, Kind::Publish))? else {
+        let Some(Some(list)) = self.note(list_at(table, TableKind::Publish))? else {
             return Ok(());
         };
         self.note_publishes(alloc, files, list, sizes)

@@ -1,10 +1,10 @@
 //! What is wrong with a node's file, and where.
 
 ghost use Rattle.std.specs.Prelude.{◌≡◌, IfOk};
-ghost use Rattle.job_config.specs.Faults.{code_of, kind_code, name_code, number_code};
+ghost use Rattle.job_config.specs.Faults.{code_of_fault, kind_code, name_code, number_fault_code};
 ghost use Rattle.job_config.specs.declared.faults.ConfigFault.TheVariants.{Memory};
 
-use crate::places::{Kind, NameKey, NumberKey, Place};
+use crate::places::{TableKind, NameKey, NumberKey, TablePlace};
 use bpf::ImageFault;
 use bver::Refused;
 use job_parts::node_codes::NodeCode;
@@ -14,7 +14,7 @@ use std::marker::Model;
 
 /// What was found in the place of a number.
 #[derive(Clone, Copy, Debug, PartialEq, Eq)]
-pub enum Found {
+pub enum FoundWord {
     /// Nothing.
     Missing,
     /// This number.
@@ -25,11 +25,11 @@ pub enum Found {
 
 /// A word of a node's file. Contracts see its bytes.
 #[derive(Debug, Drop)]
-pub struct Word {
+pub struct NameWord {
     text: String,
 }
 
-impl Model for Word {
+impl Model for NameWord {
     ghost use Rattle.std.specs.Prelude.{ℕ, List, string_bytes};
 
     ghost Value = { List ℕ };
@@ -37,16 +37,16 @@ impl Model for Word {
     ghost view = { λ w. string_bytes w.text };
 }
 
-impl Word {
+impl NameWord {
     /// A copy of this text.
     ///
     /// # Errors
     ///
     /// An error if memory is refused.
-    pub fn new(alloc: Global, text: &str) -> Result<Word, AllocError>
+    pub fn new(alloc: Global, text: &str) -> Result<NameWord, AllocError>
         ensures { IfOk result (λ word. word ≡ text.now) }
     {
-        Ok(Word {
+        Ok(NameWord {
             text: String::from_str(alloc, text)?,
         })
     }
@@ -80,76 +80,76 @@ pub enum ConfigFault {
         /// The line, from 1.
         line: usize,
         /// What the reader says.
-        message: Word,
+        message: NameWord,
     },
     /// A table has a key that it may not have.
     UnknownKey {
         /// The table.
-        place: Place,
+        place: TablePlace,
         /// The key.
-        key: Word,
+        key: NameWord,
     },
     /// What a key holds is no number within limits.
     BadNumber {
         /// The table.
-        place: Place,
+        place: TablePlace,
         /// The key.
         key: NumberKey,
         /// What it holds.
-        found: Found,
+        found: FoundWord,
         /// The least number that is allowed.
         least: u32,
         /// The greatest.
         most: u32,
     },
     /// The key `peak` of a map holds neither true nor false.
-    BadPeak(Place),
+    BadPeak(TablePlace),
     /// What the file has there is no table.
-    NoTable(Place),
+    NoTable(TablePlace),
     /// What the file has under the key of a kind is no list of tables.
-    NoList(Kind),
+    NoList(TableKind),
     /// The number of tables of a kind is too great, or too small.
     BadCount {
         /// The kind.
-        kind: Kind,
+        kind: TableKind,
         /// How many there are.
         count: usize,
     },
     /// What a key holds is no name of a file.
     NoName {
         /// The table.
-        place: Place,
+        place: TablePlace,
         /// The key.
         key: NameKey,
     },
     /// The file that a key names cannot be used.
     BadFile {
         /// The table.
-        place: Place,
+        place: TablePlace,
         /// The key.
         key: NameKey,
         /// The name.
-        name: Word,
+        name: NameWord,
         /// Why.
         trouble: Trouble,
     },
 }
 
 /// What faults of the tables of a kind are.
-fn code_of_kind(kind: Kind) -> NodeCode
+fn code_of_kind(kind: TableKind) -> NodeCode
     ensures { result ≡ kind_code kind }
 {
     match kind {
-        Kind::Node => NodeCode::Text,
-        Kind::Bank => NodeCode::Bank,
-        Kind::Map => NodeCode::Map,
-        Kind::Publish => NodeCode::Load,
+        TableKind::Node => NodeCode::Text,
+        TableKind::Bank => NodeCode::Bank,
+        TableKind::Map => NodeCode::Map,
+        TableKind::Publish => NodeCode::Load,
     }
 }
 
 /// What faults of the numbers of a key are.
 fn code_of_number(key: NumberKey) -> NodeCode
-    ensures { result ≡ number_code key }
+    ensures { result ≡ number_fault_code key }
 {
     match key {
         NumberKey::Address => NodeCode::Address,
@@ -174,7 +174,7 @@ fn code_of_name(key: NameKey) -> NodeCode
 impl ConfigFault {
     /// The code that is printed of it; `None` if memory was refused.
     pub fn code(&self) -> Option<NodeCode>
-        ensures { result ≡ code_of self.now }
+        ensures { result ≡ code_of_fault self.now }
     {
         match self {
             ConfigFault::Memory => None,
@@ -240,30 +240,30 @@ impl fmt::Display for Trouble {
 }
 
 /// How many tables of a kind a node's file may have, for the user.
-fn wanted(kind: Kind) -> &'static str {
+fn wanted(kind: TableKind) -> &'static str {
     match kind {
-        Kind::Bank => "1 to 8",
-        Kind::Node | Kind::Map => "at most 8",
-        Kind::Publish => "at most 4294967295",
+        TableKind::Bank => "1 to 8",
+        TableKind::Node | TableKind::Map => "at most 8",
+        TableKind::Publish => "at most 4294967295",
     }
 }
 
 /// The keys that a table of a kind may have, for the user.
-fn keys(kind: Kind) -> &'static str {
+fn keys(kind: TableKind) -> &'static str {
     match kind {
-        Kind::Node => "address, bank, map, ports, program or publish",
-        Kind::Bank => "base, contents, journal or size",
-        Kind::Map => "cells or peak",
-        Kind::Publish => "image or slot",
+        TableKind::Node => "address, bank, map, ports, program or publish",
+        TableKind::Bank => "base, contents, journal or size",
+        TableKind::Map => "cells or peak",
+        TableKind::Publish => "image or slot",
     }
 }
 
-impl fmt::Display for Found {
+impl fmt::Display for FoundWord {
     fn fmt<W: fmt::Write>(&self, f: &mut fmt::Formatter<W>) -> fmt::Result {
         match self {
-            Found::Missing => write!(f, " is missing"),
-            Found::Number(number) => write!(f, " {number}"),
-            Found::Other => write!(f, " is no number"),
+            FoundWord::Missing => write!(f, " is missing"),
+            FoundWord::Number(number) => write!(f, " {number}"),
+            FoundWord::Other => write!(f, " is no number"),
         }
     }
 }
@@ -275,10 +275,10 @@ const LOADS: &str = "\
 /// Prints that a table has a key that it may not have.
 fn print_unknown<W: fmt::Write>(
     f: &mut fmt::Formatter<W>,
-    place: &Place,
-    key: &Word,
+    place: &TablePlace,
+    key: &NameWord,
 ) -> fmt::Result {
-    if place.kind == Kind::Node && key.text.as_str() == "load" {
+    if place.kind == TableKind::Node && key.text.as_str() == "load" {
         return write!(f, "key load: {LOADS}");
     }
     let (key, keys) = (key.text.escape_debug(), keys(place.kind));
@@ -286,9 +286,9 @@ fn print_unknown<W: fmt::Write>(
 }
 
 /// Prints that there are too many tables of a kind, or too few.
-fn print_count<W: fmt::Write>(f: &mut fmt::Formatter<W>, kind: Kind, count: usize) -> fmt::Result {
+fn print_count<W: fmt::Write>(f: &mut fmt::Formatter<W>, kind: TableKind, count: usize) -> fmt::Result {
     let (word, wanted) = (kind.word(), wanted(kind));
-    let plural = if kind == Kind::Publish { "es" } else { "s" };
+    let plural = if kind == TableKind::Publish { "es" } else { "s" };
     write!(f, "{count} {word}{plural}: wanted {wanted}")
 }
 
@@ -296,9 +296,9 @@ fn print_count<W: fmt::Write>(f: &mut fmt::Formatter<W>, kind: Kind, count: usiz
 /// packet has.
 fn print_number<W: fmt::Write>(
     f: &mut fmt::Formatter<W>,
-    place: &Place,
+    place: &TablePlace,
     key: NumberKey,
-    found: &Found,
+    found: &FoundWord,
     least: u32,
     most: u32,
 ) -> fmt::Result {

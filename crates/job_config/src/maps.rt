@@ -1,15 +1,15 @@
 //! The maps of a node's file.
 
 ghost use Rattle.std.specs.Prelude.{◌≡◌, ◌≤◌, [], codes, IfErr, IfOk, Ok, length};
-ghost use Rattle.job_config.specs.Configured.{each, kind_in, map_in, maps_at, next_map};
+ghost use Rattle.job_config.specs.Configured.{each, kind_in_file, map_in, maps_at, next_map};
 ghost use Rattle.job_config.specs.Faults.{IsFaultOf};
 ghost use Rattle.machine.specs.Sizes.{AreSizes, listed_maps};
 ghost use Rattle.toml.specs.Data.{get_member};
 ghost use Rattle.toml.specs.View.{items_view, table_view, view};
 
 use crate::faults::ConfigFault;
-use crate::numbers::number_at;
-use crate::places::{Kind, NumberKey, Place};
+use crate::numbers::number_at_key;
+use crate::places::{TableKind, NumberKey, TablePlace};
 use crate::tables::{held, list_at, table_in};
 use bver::MapSizes;
 use machine::{MAX_CELLS, MAX_MAPS, MapKind};
@@ -17,8 +17,8 @@ use std::alloc::Global;
 use toml::{Table, Value};
 
 /// The kind of the map of a table: of the greatest numbers if `peak` is true, and counting without it.
-pub(crate) fn kind_of(table: &Table, place: Place) -> Result<MapKind, ConfigFault>
-    ensures { result ≡ kind_in place (get_member (codes "peak") (table_view table.now)) }
+pub(crate) fn configured_kind_of(table: &Table, place: TablePlace) -> Result<MapKind, ConfigFault>
+    ensures { result ≡ kind_in_file place (get_member (codes "peak") (table_view table.now)) }
 {
     let Some(value) = held(table, "peak") else {
         return Ok(MapKind::Counter);
@@ -37,13 +37,13 @@ fn map_in(item: &Value, number: usize, left: u16) -> Result<(u16, MapKind), Conf
     ensures value { result ≡ map_in number left (view item.now) }
     ensures range { IfOk result (λ map. (1 ≤ map.0) × (map.0 ≤ left)) }
 {
-    let place = Place {
-        kind: Kind::Map,
+    let place = TablePlace {
+        kind: TableKind::Map,
         number,
     };
     let table = table_in(item, place)?;
-    let cells = number_at(table, place, NumberKey::Cells, 1, u32::from(left))?;
-    let kind = kind_of(table, place)?;
+    let cells = number_at_key(table, place, NumberKey::Cells, 1, u32::from(left))?;
+    let kind = configured_kind_of(table, place)?;
     Ok((cells as u16, kind))
 }
 
@@ -76,14 +76,14 @@ pub fn maps_of(alloc: Global, table: &Table) -> Result<MapSizes, ConfigFault>
     ensures ok { IfOk result (λ sizes. maps_at (table_view table.now) ≡ Ok sizes) }
     ensures err { IfErr result (IsFaultOf (maps_at (table_view table.now))) }
 {
-    let list = match list_at(table, Kind::Map)? {
+    let list = match list_at(table, TableKind::Map)? {
         Some(list) => list,
         None => &[],
     };
     let count = list.len();
     if count > MAX_MAPS {
         return Err(ConfigFault::BadCount {
-            kind: Kind::Map,
+            kind: TableKind::Map,
             count,
         });
     }

@@ -5,7 +5,7 @@ ghost use Rattle.job_config.specs.Names.{IsBeside, IsFolder, name_at, path_in};
 ghost use Rattle.toml.specs.View.{table_view};
 
 use crate::faults::ConfigFault;
-use crate::places::{NameKey, Place};
+use crate::places::{NameKey, TablePlace};
 use crate::tables::held;
 use std::alloc::{AllocError, Global};
 use toml::Table;
@@ -15,7 +15,7 @@ use toml::Table;
 /// # Errors
 ///
 /// `NoName` if the key holds no text.
-pub fn name_at(table: &Table, place: Place, key: NameKey) -> Result<Option<&str>, ConfigFault>
+pub fn name_at(table: &Table, place: TablePlace, key: NameKey) -> Result<Option<&str>, ConfigFault>
     ensures ok { IfOk result
         (λ name. name_at (table_view table.now) place key ≡ Ok (option_map (λ n. n.now) name)) }
     ensures err { IfErr result (λ fault. name_at (table_view table.now) place key ≡ Err fault) }
@@ -34,7 +34,7 @@ pub fn name_at(table: &Table, place: Place, key: NameKey) -> Result<Option<&str>
 /// # Errors
 ///
 /// `NoName` if the table does not have the key, or the key holds no text.
-pub fn name_in(table: &Table, place: Place, key: NameKey) -> Result<&str, ConfigFault>
+pub fn name_of_contents(table: &Table, place: TablePlace, key: NameKey) -> Result<&str, ConfigFault>
     ensures ok { IfOk result (λ name. name_at (table_view table.now) place key ≡ Ok (Some name.now)) }
 {
     match name_at(table, place, key)? {

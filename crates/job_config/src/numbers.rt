@@ -1,37 +1,37 @@
 //! Numbers of a node's file.
 
 ghost use Rattle.std.specs.Prelude.{◌≡◌, ◌≤◌, IfOk, IfSome};
-ghost use Rattle.job_config.specs.Numbers.{found_at, number_at, number_or, within};
+ghost use Rattle.job_config.specs.Numbers.{found_at, number_at_key, number_or, within};
 ghost use Rattle.toml.specs.View.{table_view};
 
-use crate::faults::{ConfigFault, Found};
-use crate::places::{NumberKey, Place};
+use crate::faults::{ConfigFault, FoundWord};
+use crate::places::{NumberKey, TablePlace};
 use crate::tables::held;
 use toml::Table;
 
 /// What a key of a table holds in the place of a number.
-fn found_at(table: &Table, key: NumberKey) -> Found
+fn found_at(table: &Table, key: NumberKey) -> FoundWord
     ensures { result ≡ found_at (table_view table.now) key }
 {
     match held(table, key.word()) {
         Some(value) => match value.as_integer() {
-            Some(number) => Found::Number(number),
-            None => Found::Other,
+            Some(number) => FoundWord::Number(number),
+            None => FoundWord::Other,
         },
-        None => Found::Missing,
+        None => FoundWord::Missing,
     }
 }
 
 /// The number that was found, if it is one from `least` to `most`.
-fn within(found: Found, least: u32, most: u32) -> Option<u32>
+fn within(found: FoundWord, least: u32, most: u32) -> Option<u32>
     ensures value { result ≡ within least most found }
     ensures range { IfSome result (λ number. (least ≤ number) × (number ≤ most)) }
 {
     match found {
-        Found::Number(number) if i64::from(least) <= number && number <= i64::from(most) => {
+        FoundWord::Number(number) if i64::from(least) <= number && number <= i64::from(most) => {
             Some(number as u32)
         }
-        Found::Number(_) | Found::Missing | Found::Other => None,
+        FoundWord::Number(_) | FoundWord::Missing | FoundWord::Other => None,
     }
 }
 
@@ -40,14 +40,14 @@ fn within(found: Found, least: u32, most: u32) -> Option<u32>
 /// # Errors
 ///
 /// `BadNumber` if the key holds no such number, or the table does not have the key.
-pub fn number_at(
+pub fn number_at_key(
     table: &Table,
-    place: Place,
+    place: TablePlace,
     key: NumberKey,
     least: u32,
     most: u32,
 ) -> Result<u32, ConfigFault>
-    ensures value { result ≡ number_at (table_view table.now) place key least most }
+    ensures value { result ≡ number_at_key (table_view table.now) place key least most }
     ensures range { IfOk result (λ number. (least ≤ number) × (number ≤ most)) }
 {
     let found = found_at(table, key);
@@ -70,7 +70,7 @@ pub fn number_at(
 /// `BadNumber` if the table has the key, and it holds no such number.
 pub fn number_or(
     table: &Table,
-    place: Place,
+    place: TablePlace,
     key: NumberKey,
     least: u32,
     most: u32,
@@ -80,8 +80,8 @@ pub fn number_or(
     ensures value { result ≡ number_or (table_view table.now) place key least most other }
     ensures range { IfOk result (λ number. (least ≤ number) × (number ≤ most)) }
 {
-    if let Found::Missing = found_at(table, key) {
+    if let FoundWord::Missing = found_at(table, key) {
         return Ok(other);
     }
-    number_at(table, place, key, least, most)
+    number_at_key(table, place, key, least, most)
 }

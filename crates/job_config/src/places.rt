@@ -1,14 +1,14 @@
 //! Where something is in a node's file.
 
 ghost use Rattle.std.specs.Prelude.{◌≡◌};
-ghost use Rattle.job_config.specs.Places.{kind_word, knows, name_word, number_word};
-ghost use Rattle.job_config.specs.declared.places.Kind.TheVariants.{Node};
+ghost use Rattle.job_config.specs.Places.{kind_key, knows, name_word, number_word};
+ghost use Rattle.job_config.specs.declared.places.TableKind.TheVariants.{Node};
 
 use std::fmt;
 
 /// The tables of a node's file.
 #[derive(Clone, Copy, Debug, PartialEq, Eq)]
-pub enum Kind {
+pub enum TableKind {
     /// The node's own, which is the whole file.
     Node,
     /// That of a bank.
@@ -19,16 +19,16 @@ pub enum Kind {
     Publish,
 }
 
-impl Kind {
+impl TableKind {
     /// The key under which the file has such tables; the node's own table has none.
     pub fn word(self) -> &'static str
-        ensures { result.now ≡ kind_word self }
+        ensures { result.now ≡ kind_key self }
     {
         match self {
-            Kind::Node => "",
-            Kind::Bank => "bank",
-            Kind::Map => "map",
-            Kind::Publish => "publish",
+            TableKind::Node => "",
+            TableKind::Bank => "bank",
+            TableKind::Map => "map",
+            TableKind::Publish => "publish",
         }
     }
 
@@ -37,10 +37,10 @@ impl Kind {
         ensures { result ≡ knows self key.now }
     {
         match self {
-            Kind::Node => is_node_key(key),
-            Kind::Bank => key == "base" || key == "contents" || key == "journal" || key == "size",
-            Kind::Map => key == "cells" || key == "peak",
-            Kind::Publish => key == "image" || key == "slot",
+            TableKind::Node => is_node_key(key),
+            TableKind::Bank => key == "base" || key == "contents" || key == "journal" || key == "size",
+            TableKind::Map => key == "cells" || key == "peak",
+            TableKind::Publish => key == "image" || key == "slot",
         }
     }
 }
@@ -57,22 +57,22 @@ fn is_node_key(key: &str) -> bool
 
 /// A table of a node's file: its kind, and its number, from 0, among those of its kind; that of the node's own is 0.
 #[derive(Clone, Copy, Debug, PartialEq, Eq)]
-pub struct Place {
+pub struct TablePlace {
     /// Which kind of table it is.
-    pub kind: Kind,
+    pub kind: TableKind,
     /// Its number.
     pub number: usize,
 }
 
-impl fmt::Display for Place {
+impl fmt::Display for TablePlace {
     fn fmt<W: fmt::Write>(&self, f: &mut fmt::Formatter<W>) -> fmt::Result {
         let word = self.kind.word();
         let number = self.number;
         match self.kind {
-            Kind::Node => Ok(()),
-            Kind::Bank | Kind::Map => write!(f, "{word} {number} "),
+            TableKind::Node => Ok(()),
+            TableKind::Bank | TableKind::Map => write!(f, "{word} {number} "),
             // A publish has the number of its generation, from 1.
-            Kind::Publish => {
+            TableKind::Publish => {
                 let number = number.saturating_add(1);
                 write!(f, "{word} {number} ")
             }

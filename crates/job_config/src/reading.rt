@@ -2,9 +2,9 @@
 
 ghost use Rattle.std.specs.Prelude.{◌≡◌, ◌≤◌, ◌⊎◌, ◌∷◌, [], All, IfErr, IfOk, IfSome, None, Ok, Some, length, option_map, string_bytes, true};
 ghost use Rattle.job_config.specs.Configured.{IsBadConfiguration, IsConfiguration, banks_at};
-ghost use Rattle.job_config.specs.Faults.{code_of};
-ghost use Rattle.job_config.specs.Numbers.{number_at};
-ghost use Rattle.job_config.specs.Reads.{BeginWith, BeginsWith, Ends, EndsBy, HoldPublishes, HoldsBanks, HoldsBeside, HoldsFirst, HoldsImageAt, HoldsParts, HoldsProgramOf, HoldsPublish, HoldsPublishes, IsBadNode, IsBadText, IsNoTable, ReadsConfiguration, ReadsNoConfiguration, ReadsNoNode, ReadsNode, SomeRead};
+ghost use Rattle.job_config.specs.Faults.{code_of_fault};
+ghost use Rattle.job_config.specs.Numbers.{number_at_key};
+ghost use Rattle.job_config.specs.Reads.{BeginWith, BeginsBank, EndsForFault, EndsBySaid, HoldPublishes, HoldsBanks, HoldsBeside, HoldsFirst, HoldsImageAt, HoldsParts, HoldsProgramOf, HoldsPublish, HoldsPublishes, IsBadNode, IsBadText, IsNoToml, ReadsConfiguration, ReadsNoConfiguration, ReadsNoNode, ReadsNode, SomeRead};
 ghost use Rattle.job_config.specs.OwnNodes.{IsPublish, fit};
 ghost use Rattle.job_config.specs.declared.faults.ConfigFault.TheVariants.{Memory};
 ghost use Rattle.job_config.specs.declared.places.NumberKey.TheVariants.{Slot};
@@ -23,11 +23,11 @@ ghost use Rattle.toml.specs.View.{items_view, table_view, view};
 
 use crate::configuration::{Configuration, configuration_of};
 use crate::every_fault::Faults;
-use crate::faults::{ConfigFault, Trouble, Word};
-use crate::names::{beside, name_at, name_in};
-use crate::numbers::number_at;
+use crate::faults::{ConfigFault, Trouble, NameWord};
+use crate::names::{beside, name_at, name_of_contents};
+use crate::numbers::number_at_key;
 use crate::own_node::{Contents, OwnNode};
-use crate::places::{Kind, NameKey, NumberKey, Place};
+use crate::places::{TableKind, NameKey, NumberKey, TablePlace};
 use crate::tables::{OWN, list_at, table_in};
 use bpf::{Image, ImageFault};
 use bver::{Accepted, MapSizes, Refusal, verify};
@@ -63,7 +63,7 @@ fn is_memory(trouble: Trouble) -> bool {
 /// The fault of a file that a key names.
 fn bad_file(
     alloc: Global,
-    place: Place,
+    place: TablePlace,
     key: NameKey,
     name: &str,
     trouble: Trouble,
@@ -71,7 +71,7 @@ fn bad_file(
     if is_memory(trouble) {
         return Ok(ConfigFault::Memory);
     }
-    let name = Word::new(alloc, name)?;
+    let name = NameWord::new(alloc, name)?;
     Ok(ConfigFault::BadFile {
         place,
         key,
@@ -96,7 +96,7 @@ fn bytes_beside<F: Files>(
     alloc: Global,
     file: &str,
     files: &mut F,
-    place: Place,
+    place: TablePlace,
     key: NameKey,
     name: &str,
     most: usize,
@@ -123,11 +123,11 @@ pub(crate) fn contents_in<F: Files>(
     file: &str,
     files: &mut F,
     item: &Value,
-    place: Place,
+    place: TablePlace,
     size: u32,
 ) -> Result<Contents, ConfigFault>
     ensures held { IfOk result (λ own.
-        BeginsWith F.reads file.now place (view item.now) size files.old own files.new) }
+        BeginsBank F.reads file.now place (view item.now) size files.old own files.new) }
     ensures short { IfOk result (λ own. length own ≤ size) }
     ensures read { SomeRead F.reads files.old files.new }
 {
@@ -156,8 +156,8 @@ fn contents_of<F: Files>(
 {
     let mut contents = Vec::new(alloc);
     for index in 0..banks.len() {
-        let place = Place {
-            kind: Kind::Bank,
+        let place = TablePlace {
+            kind: TableKind::Bank,
             number: index,
         };
         let size = banks[index].size;
@@ -191,7 +191,7 @@ fn all_contents<F: Files>(
     ensures fit { IfOk result (λ contents. fit banks.now contents.items ≡ true) }
     ensures read { SomeRead F.reads files.old files.new }
 {
-    match list_at(table, Kind::Bank)? {
+    match list_at(table, TableKind::Bank)? {
         Some(list) => contents_of(alloc, file, files, list, banks),
         None => Ok(no_contents(alloc)?),
     }
@@ -224,7 +224,7 @@ fn program_beside<F: Files>(
     alloc: Global,
     file: &str,
     files: &mut F,
-    place: Place,
+    place: TablePlace,
     key: NameKey,
     name: &str,
     most: usize,
@@ -277,11 +277,11 @@ pub(crate) fn first_program<F: Files>(
 }
 
 /// The slot that the table of a publish names.
-pub(crate) fn slot_in(table: &Table, place: Place) -> Result<u8, ConfigFault>
-    ensures value { number_at (table_view table.now) place Slot 0 3 ≡ result }
+pub(crate) fn slot_in(table: &Table, place: TablePlace) -> Result<u8, ConfigFault>
+    ensures value { number_at_key (table_view table.now) place Slot 0 3 ≡ result }
     ensures few { IfOk result (λ slot. slot ≤ 3) }
 {
-    let slot = number_at(table, place, NumberKey::Slot, 0, u32::from(LAST_SLOT))?;
+    let slot = number_at_key(table, place, NumberKey::Slot, 0, u32::from(LAST_SLOT))?;
     Ok(slot as u8)
 }
 
@@ -291,7 +291,7 @@ pub(crate) fn image_in<F: Files>(
     file: &str,
     files: &mut F,
     table: &Table,
-    place: Place,
+    place: TablePlace,
     sizes: MapSizes,
 ) -> Result<Accepted, ConfigFault>
     ensures held { IfOk result (λ program.
@@ -300,7 +300,7 @@ pub(crate) fn image_in<F: Files>(
     ensures read { SomeRead F.reads files.old files.new }
 {
     let key = NameKey::Image;
-    let name = name_in(table, place, key)?;
+    let name = name_of_contents(table, place, key)?;
     let most = STAGING_SIZE as usize;
     program_beside(alloc, file, files, place, key, name, most, sizes)
 }
@@ -311,7 +311,7 @@ fn publish_in<F: Files>(
     file: &str,
     files: &mut F,
     item: &Value,
-    place: Place,
+    place: TablePlace,
     sizes: MapSizes,
 ) -> Result<(u8, Accepted), ConfigFault>
     ensures held { IfOk result (λ publish.
@@ -341,8 +341,8 @@ fn publishes_in<F: Files>(
 {
     let mut publishes = Vec::new(alloc);
     for index in 0..list.len() {
-        let place = Place {
-            kind: Kind::Publish,
+        let place = TablePlace {
+            kind: TableKind::Publish,
             number: index,
         };
         let publish = publish_in(alloc, file, files, &list[index], place, sizes)?;
@@ -368,13 +368,13 @@ fn publishes_of<F: Files>(
     ensures few { IfOk result (λ publishes. length publishes.items ≤ 4294967295) }
     ensures read { SomeRead F.reads files.old files.new }
 {
-    let Some(list) = list_at(table, Kind::Publish)? else {
+    let Some(list) = list_at(table, TableKind::Publish)? else {
         return Ok(Vec::new(alloc));
     };
     let count = list.len();
     if count > MOST_PUBLISHES {
         return Err(ConfigFault::BadCount {
-            kind: Kind::Publish,
+            kind: TableKind::Publish,
             count,
         });
     }
@@ -424,12 +424,12 @@ fn line_at(text: &str, place: usize) -> usize {
 /// Why a text is no TOML.
 fn no_toml(alloc: Global, text: &str, fault: &toml::de::Error) -> Result<ConfigFault, AllocError>
     ensures { IfOk result
-        (λ bad. (bad ≡ Memory) ⊎ (¬ IsMemory fault.now × (code_of bad ≡ Some Text))) }
+        (λ bad. (bad ≡ Memory) ⊎ (¬ IsMemory fault.now × (code_of_fault bad ≡ Some Text))) }
 {
     match fault.span() {
         Some(span) => Ok(ConfigFault::NoToml {
             line: line_at(text, span.start),
-            message: Word::new(alloc, fault.message())?,
+            message: NameWord::new(alloc, fault.message())?,
         }),
         None => Ok(ConfigFault::Memory),
     }
@@ -439,7 +439,7 @@ fn no_toml(alloc: Global, text: &str, fault: &toml::de::Error) -> Result<ConfigF
 #[tactic(auto, using(crate::proofs::Texts::no_table))]
 fn table_of(alloc: Global, text: &str) -> Result<Table, ConfigFault>
     ensures table { IfOk result (λ table. parse_document text.now ≡ Some (table_view table)) }
-    ensures none { IfErr result (IsNoTable text.now) }
+    ensures none { IfErr result (IsNoToml text.now) }
 {
     match toml::table_from_str(alloc, text) {
         Ok(table) => Ok(table),
@@ -450,7 +450,7 @@ fn table_of(alloc: Global, text: &str) -> Result<Table, ConfigFault>
 /// What ends a job whose node's file has a fault with that code; for `None`, one to which memory was refused. Each of
 /// its faults is in that text, if there was memory for it.
 fn ended<'a>(code: Option<NodeCode>, text: Result<String, AllocError>) -> Fault<'a>
-    ensures { Ends code result }
+    ensures { EndsForFault code result }
 {
     let (Some(code), Ok(place)) = (code, text) else {
         return Fault::NoMemory;
@@ -460,7 +460,7 @@ fn ended<'a>(code: Option<NodeCode>, text: Result<String, AllocError>) -> Fault<
 
 /// What ends a job whose node's file, which has this name, has that fault.
 fn fault_of<'a>(alloc: Global, name: &str, fault: &ConfigFault) -> Fault<'a>
-    ensures { Ends (code_of fault.now) result }
+    ensures { EndsForFault (code_of_fault fault.now) result }
 {
     ended(fault.code(), format!(in alloc; "{name} {fault}"))
 }
@@ -504,7 +504,7 @@ fn named_faults<F: Files>(
 /// The configuration of that table, which is the node's file of this name; or what ends the job.
 fn configured<'a>(alloc: Global, name: &str, table: &Table) -> Result<Configuration, Fault<'a>>
     ensures says { IfOk result (IsConfiguration (table_view table.now)) }
-    ensures bad { IfErr result (λ end. EndsBy end (IsBadConfiguration (table_view table.now))) }
+    ensures bad { IfErr result (λ end. EndsBySaid end (IsBadConfiguration (table_view table.now))) }
     ensures banks { IfOk result (λ c. banks_at (table_view table.now) ≡ Ok c.banks.items) }
     ensures within { IfOk result (λ c. are_within c.banks.items ≡ true) }
 {
@@ -520,7 +520,7 @@ fn configured<'a>(alloc: Global, name: &str, table: &Table) -> Result<Configurat
 /// The table of that text, which is the node's file of this name; or what ends the job.
 fn tabled<'a>(alloc: Global, name: &str, text: &str) -> Result<Table, Fault<'a>>
     ensures table { IfOk result (λ table. parse_document text.now ≡ Some (table_view table)) }
-    ensures bad { IfErr result (λ end. EndsBy end (IsNoTable text.now)) }
+    ensures bad { IfErr result (λ end. EndsBySaid end (IsNoToml text.now)) }
 {
     match table_of(alloc, text) {
         Ok(table) => Ok(table),
@@ -541,7 +541,7 @@ fn noded<'a, F: Files>(
     requires within { are_within configuration.banks.items ≡ true }
     ensures held { IfOk result (λ made. HoldsParts F.reads name.now (table_view table.now)
         files.old made.node made.program files.new) }
-    ensures bad { IfErr result (λ end. EndsBy end (λ _. Unit {0})) }
+    ensures bad { IfErr result (λ end. EndsBySaid end (λ _. Unit {0})) }
     ensures read { SomeRead F.reads files.old files.new }
 {
     match node_with(alloc, name, files, table, configuration) {
@@ -561,7 +561,7 @@ fn configuration_of_text<'a>(
 ) -> Result<Configuration, Fault<'a>>
     ensures says { IfOk result (λ c. (table : Members) × (parse_document text.now ≡ Some table)
         × IsConfiguration table c) }
-    ensures bad { IfErr result (λ end. EndsBy end (IsBadText text.now)) }
+    ensures bad { IfErr result (λ end. EndsBySaid end (IsBadText text.now)) }
     ensures within { IfOk result (λ c. are_within c.banks.items ≡ true) }
 {
     let table = tabled(alloc, name, text)?;
@@ -578,7 +578,7 @@ fn node_of_text<'a, F: Files>(
     ensures held { IfOk result (λ made. (table : Members) × (parse_document text.now ≡ Some table)
         × HoldsParts F.reads name.now table files.old made.node made.program files.new) }
     ensures bad { IfErr result (λ end.
-        EndsBy end (λ fault. IsBadNode F.reads text.now files.old fault files.new)) }
+        EndsBySaid end (λ fault. IsBadNode F.reads text.now files.old fault files.new)) }
     ensures read { SomeRead F.reads files.old files.new }
 {
     let table = tabled(alloc, name, text)?;

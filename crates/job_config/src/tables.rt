@@ -6,12 +6,12 @@ ghost use Rattle.toml.specs.Data.{get_member};
 ghost use Rattle.toml.specs.View.{items_view, table_view, view};
 
 use crate::faults::ConfigFault;
-use crate::places::{Kind, Place};
+use crate::places::{TableKind, TablePlace};
 use toml::{Table, Value};
 
 /// The place of the node's own table.
-pub const OWN: Place = Place {
-    kind: Kind::Node,
+pub const OWN: TablePlace = TablePlace {
+    kind: TableKind::Node,
     number: 0,
 };
 
@@ -27,7 +27,7 @@ pub fn held<'a>(table: &'a Table, key: &str) -> Option<&'a Value>
 /// # Errors
 ///
 /// `NoList` if the key of the kind holds no list of tables.
-pub fn list_at(table: &Table, kind: Kind) -> Result<Option<&[Value]>, ConfigFault>
+pub fn list_at(table: &Table, kind: TableKind) -> Result<Option<&[Value]>, ConfigFault>
     ensures ok { IfOk result (λ list.
         list_at (table_view table.now) kind ≡ Ok (option_map (λ l. items_view l.now) list)) }
     ensures err { IfErr result (λ fault. list_at (table_view table.now) kind ≡ Err fault) }
@@ -46,7 +46,7 @@ pub fn list_at(table: &Table, kind: Kind) -> Result<Option<&[Value]>, ConfigFaul
 /// # Errors
 ///
 /// `NoTable` if the item is no table.
-pub fn table_in(item: &Value, place: Place) -> Result<&Table, ConfigFault>
+pub fn table_in(item: &Value, place: TablePlace) -> Result<&Table, ConfigFault>
     ensures ok { IfOk result (λ table. table_in (view item.now) place ≡ Ok (table_view table.now)) }
     ensures err { IfErr result (λ fault. table_in (view item.now) place ≡ Err fault) }
 {

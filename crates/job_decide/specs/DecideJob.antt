@@ -14,7 +14,7 @@ use Rattle.job_parts.specs.Arguments.{file_rule, option_rule}
 use Rattle.job_parts.specs.Options.{GivesPorts, GivesSizes, IsBadCount, IsBadList}
 use Rattle.job_parts.specs.declared.usage.UsageFault.{UsageFault}
 use Rattle.job_parts.specs.declared.usage.UsageFault.TheVariants.{Parse, BadOption, Memory}
-use Rattle.job_decide.specs.Tables.{line_of}
+use Rattle.job_decide.specs.Tables.{decision_line_of}
 use Rattle.job_decide.specs.declared.decide.DecideWords.{DecideWords}
 
 -- `decide LINES TABLE [--maps LIST] [--ports N]`
@@ -61,7 +61,7 @@ ticket_text (Some call) = codes ", ticket " ++ decimal call.answer ++ codes " of
 
 -- the line of a packet on which a table decides; the rules of the table are in these lines
 abbrev pub match_line : (port : ℕ) → (lines : List ℕ) → Match → List ℕ
-match_line port lines found = rule_text port (option_map (λ number. line_of lines number) found.rule) ++ codes " verdict " ++ decimal (verdict_number found.verdict)
+match_line port lines found = rule_text port (option_map (λ number. decision_line_of lines number) found.rule) ++ codes " verdict " ++ decimal (verdict_number found.verdict)
     ++ ticket_text found.ticket
 
 -- the beginning of the line of a packet that a check of its header answers

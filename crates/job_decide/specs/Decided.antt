@@ -3,7 +3,7 @@ use Rattle.std.specs.Prelude.{◌≡◌, ℕ, List, [], Option, Some, None}
 use Rattle.std.specs.Io.KnownBytes.{Appends}
 use Rattle.machine.specs.declared.calls.Call.{Call}
 use Rattle.machine.specs.Memory.{Header, header}
-use Rattle.policy_table.specs.Counts.{after_draws, told_on}
+use Rattle.policy_table.specs.Counts.{after_draws, reported_on}
 use Rattle.policy_table.specs.Matching.{matched}
 use Rattle.policy_table.specs.Meaning.{decision}
 use Rattle.policy_table.specs.Passing.{passed_rules}
@@ -28,49 +28,49 @@ use Rattle.job_parts.specs.declared.stops.LineEnd.TheVariants.{NoMemory}
 use Rattle.job_decide.specs.DecideJob.{match_line, status_text}
 
 -- why the rules before the one that decides do not match, if that one refuses
-abbrev pub told_passed : Verdict → List Rule → Header → (draws : List Call) → List Passed
-told_passed Authorised rules header draws = []
-told_passed InvalidKey rules header draws = passed_rules rules header draws
-told_passed NotAuthorised rules header draws = passed_rules rules header draws
-told_passed InvalidLogicalAddress rules header draws = passed_rules rules header draws
+abbrev pub reported_passed : Verdict → List Rule → Header → (draws : List Call) → List Passed
+reported_passed Authorised rules header draws = []
+reported_passed InvalidKey rules header draws = passed_rules rules header draws
+reported_passed NotAuthorised rules header draws = passed_rules rules header draws
+reported_passed InvalidLogicalAddress rules header draws = passed_rules rules header draws
 
 -- the rule by which a table of a port decides on the header of the command was printed, with its line among these, as
 -- the counts answer its draws. More was printed after it, and the counts are those after its draws
-pub record TellsMatch (port : ℕ) (rules : List Rule) (lines : List ℕ) (c : CommandValue) (before after : List ℕ)
+pub record PrintsMatch (port : ℕ) (rules : List Rule) (lines : List ℕ) (c : CommandValue) (before after : List ℕ)
     (old new : Option (List ℕ)) : Type 0 where
-  pub told : Option (List ℕ)
-  pub line : Appends old told
-      (match_line port lines (matched rules (header c.front c.tail) (told_on before rules (header c.front c.tail))))
-  pub more : PrintsMore told new
+  pub reported : Option (List ℕ)
+  pub line : Appends old reported
+      (match_line port lines (matched rules (header c.front c.tail) (reported_on before rules (header c.front c.tail))))
+  pub more : PrintsMore reported new
   pub counts : after
-      ≡ after_draws before (decision rules (header c.front c.tail) (told_on before rules (header c.front c.tail))).0
+      ≡ after_draws before (decision rules (header c.front c.tail) (reported_on before rules (header c.front c.tail))).0
 
 -- the same of the rules that are asked at the port, in their lines
-abbrev pub TellsDecision : (port : ℕ) → PolicyValue → CommandValue → (before after : List ℕ) → (old new : Option (List ℕ)) → Type 0
-TellsDecision port policy c before after old new =
-    TellsMatch port (rules_at port policy.rules) (lines_at port policy.rules) c before after old new
+abbrev pub PrintsDecision : (port : ℕ) → PolicyValue → CommandValue → (before after : List ℕ) → (old new : Option (List ℕ)) → Type 0
+PrintsDecision port policy c before after old new =
+    PrintsMatch port (rules_at port policy.rules) (lines_at port policy.rules) c before after old new
 
 -- the status of a command was printed, and more after it
-pub record TellsStatus (port : ℕ) (status : Status) (old new : Option (List ℕ)) : Type 0 where
-  pub told : Option (List ℕ)
-  pub line : Appends old told (status_text port status)
-  pub more : PrintsMore told new
+pub record PrintsStatus (port : ℕ) (status : Status) (old new : Option (List ℕ)) : Type 0 where
+  pub reported : Option (List ℕ)
+  pub line : Appends old reported (status_text port status)
+  pub more : PrintsMore reported new
 
 -- if the header of a command has a fault, the status was printed, and nothing drawn; on any other the table decides
-abbrev pub TellsCommand : (port : ℕ) → PolicyValue → CommandValue → Option HeaderFault → (before after : List ℕ)
+abbrev pub PrintsCommand : (port : ℕ) → PolicyValue → CommandValue → Option HeaderFault → (before after : List ℕ)
     → (old new : Option (List ℕ)) → Type 0
-TellsCommand port policy c (Some fault) before after old new =
-    (after ≡ before) × TellsStatus port (header_status fault) old new
-TellsCommand port policy c None before after old new = TellsDecision port policy c before after old new
+PrintsCommand port policy c (Some fault) before after old new =
+    (after ≡ before) × PrintsStatus port (header_status fault) old new
+PrintsCommand port policy c None before after old new = PrintsDecision port policy c before after old new
 
 -- if a packet is no command, the reason was printed, and nothing drawn
-abbrev pub TellsPacket : WindowsValue → (port : ℕ) → PolicyValue → Cargo → Option Discard → (before after : List ℕ)
+abbrev pub PrintsPacket : WindowsValue → (port : ℕ) → PolicyValue → Cargo → Option Discard → (before after : List ℕ)
     → (old new : Option (List ℕ)) → Type 0
-TellsPacket windows port policy p (Some discard) before after old new =
+PrintsPacket windows port policy p (Some discard) before after old new =
     (after ≡ before) × Appends old new (discard_line port discard)
-TellsPacket windows port policy p None before after old new =
-    TellsCommand port policy (command_of p) (header_check (command_of p) windows) before after old new
+PrintsPacket windows port policy p None before after old new =
+    PrintsCommand port policy (command_of p) (header_check (command_of p) windows) before after old new
 
 -- memory was refused, and nothing printed
-abbrev pub IsRefused : (old new : Option (List ℕ)) → LineEnd → Type 0
-IsRefused old new end = (end ≡ NoMemory) × (new ≡ old)
+abbrev pub IsMemoryRefused : (old new : Option (List ℕ)) → LineEnd → Type 0
+IsMemoryRefused old new end = (end ≡ NoMemory) × (new ≡ old)

@@ -6,15 +6,15 @@ use Rattle.policy_table.specs.Policies.{PolicyValue}
 use Rattle.policy_table.specs.declared.text_faults.TextFault.{TextFault}
 use Rattle.rmap.specs.Windows.{WindowsValue}
 use Rattle.spw.specs.Line.{lines_of}
-use Rattle.job_parts.specs.Files.{Reads}
+use Rattle.job_parts.specs.Files.{ReadsFile}
 use Rattle.job_parts.specs.Reading.{TextUnread}
-use Rattle.job_parts.specs.Turns.{AreTaken, StopsIn}
+use Rattle.job_parts.specs.Turns.{AreTaken, StopsInLines}
 use Rattle.job_parts.specs.declared.faults.Fault.{Fault}
 use Rattle.job_parts.specs.declared.faults.Fault.TheVariants.{NoMemory}
-use Rattle.job_parts.specs.declared.status.Status.{Status}
-use Rattle.job_parts.specs.declared.status.Status.TheVariants.{Done, Failed, Misused}
-use Rattle.job_decide.specs.DecidedLines.{DecidesLine, IsBadLine}
-use Rattle.job_decide.specs.Tables.{HoldsBadTable, HoldsTable, TellsTableFault}
+use Rattle.job_parts.specs.declared.status.ExitStatus.{ExitStatus}
+use Rattle.job_parts.specs.declared.status.ExitStatus.TheVariants.{Done, Failed, Misused}
+use Rattle.job_decide.specs.DecidedLines.{DecidesLine, IsBadDecideLine}
+use Rattle.job_decide.specs.Tables.{HoldsTableWithFault, HoldsSoundTable, PrintsTableFault}
 use Rattle.job_decide.specs.declared.decide.DecideWords.{DecideWords}
 use Rattle.job_decide.specs.declared.decide.Deciding.{Deciding}
 use Rattle.job_decide.specs.declared.tables.NoTable.{NoTable}
@@ -25,7 +25,7 @@ abbrev pub at_first : PolicyValue → (ports : ℕ) → Bor WindowsValue → Dec
 at_first policy ports windows =
     record { table = policy; feeds = replicate ports []; counts = replicate 2048 0; windows = windows }
 
-module _ {S : Type 0} (reads : Reads S) (words : DecideWords) where
+module _ {S : Type 0} (reads : ReadsFile S) (words : DecideWords) where
   -- the file of lines was read, and is UTF-8
   pub record HoldsLines (before : S) (text : List ℕ) (after : S) : Type 0 where
     pub read : reads before (string_bytes words.lines) (Some text) after
@@ -35,10 +35,10 @@ module _ {S : Type 0} (reads : Reads S) (words : DecideWords) where
   pub record IsGiven (before : S) (text : List ℕ) (policy : PolicyValue) (after : S) : Type 0 where
     pub between : S
     pub lines : HoldsLines before text between
-    pub table : HoldsTable reads between (string_bytes words.table) words.sizes policy after
+    pub table : HoldsSoundTable reads between (string_bytes words.table) words.sizes policy after
 
   -- the same, with what decides by the table before the first line
-  pub record IsReady (before : S) (text : List ℕ) (deciding : Deciding) (after : S) : Type 0 where
+  pub record IsReadyToDecide (before : S) (text : List ℕ) (deciding : Deciding) (after : S) : Type 0 where
     pub given : IsGiven before text deciding.table after
     pub first : deciding ≡ at_first deciding.table words.ports deciding.windows
     pub windows : deciding.windows.now ≡ words.windows
@@ -48,7 +48,7 @@ module _ {S : Type 0} (reads : Reads S) (words : DecideWords) where
     pub text : List ℕ
     pub between : S
     pub lines : HoldsLines before text between
-    pub table : HoldsBadTable reads between (string_bytes words.table) words.sizes fault after
+    pub table : HoldsTableWithFault reads between (string_bytes words.table) words.sizes fault after
 
   -- the file of the table, after that of the lines, cannot be read or is not UTF-8
   pub record TableUnread (before after : S) (fault : Fault) : Type 0 where
@@ -66,21 +66,21 @@ module _ {S : Type 0} (reads : Reads S) (words : DecideWords) where
 
   -- a file cannot be read, or memory was refused after the reads; a table's fault is no such end, but printed with its
   -- place
-  abbrev pub IsUnread : (before after : S) → Fault → Type 0
-  IsUnread before after fault =
+  abbrev pub AreInputsUnread : (before after : S) → Fault → Type 0
+  AreInputsUnread before after fault =
       TextUnread reads before (string_bytes words.lines) after fault
       ⊎ (TableUnread before after fault ⊎ LacksMemory before after fault)
 
   -- why nothing is decided
   abbrev pub IsUnready : (before after : S) → NoTable → Type 0
-  IsUnready before after (Ended fault) = IsUnread before after fault
+  IsUnready before after (Ended fault) = AreInputsUnread before after fault
   IsUnready before after (BadTable fault) = HoldsTableFault before after fault
 
   -- each line of the file was taken in turn
   pub record DecidesFile (before after : S) (old new : Option (List ℕ)) : Type 0 where
     pub text : List ℕ
     pub first : Deciding
-    pub ready : IsReady before text first after
+    pub ready : IsReadyToDecide before text first after
     pub left : Deciding
     pub all : AreTaken DecidesLine (lines_of text) first left old new
 
@@ -88,24 +88,24 @@ module _ {S : Type 0} (reads : Reads S) (words : DecideWords) where
   pub record StopsFile (before after : S) (old new : Option (List ℕ)) (fault : Fault) : Type 0 where
     pub text : List ℕ
     pub first : Deciding
-    pub ready : IsReady before text first after
+    pub ready : IsReadyToDecide before text first after
     pub left : Deciding
-    pub stop : StopsIn DecidesLine IsBadLine (lines_of text) first left old new fault
+    pub stop : StopsInLines DecidesLine IsBadDecideLine (lines_of text) first left old new fault
 
   -- why not all lines were taken
   abbrev pub IsNotDecided : (before after : S) → (old new : Option (List ℕ)) → Fault → Type 0
   IsNotDecided before after old new fault =
-      ((new ≡ old) × IsUnread before after fault) ⊎ StopsFile before after old new fault
+      ((new ≡ old) × AreInputsUnread before after fault) ⊎ StopsFile before after old new fault
 
   -- the table has a fault, which was printed with its place
-  pub record TellsTable (before after : S) (old new : Option (List ℕ)) : Type 0 where
+  pub record PrintsDecideFault (before after : S) (old new : Option (List ℕ)) : Type 0 where
     pub fault : TextFault
     pub held : HoldsTableFault before after fault
-    pub told : TellsTableFault fault old new
+    pub reported : PrintsTableFault fault old new
 
   -- what `decide` reads and prints if no fault ends it, by its exit status: 0 if all lines were taken, 1 if the table
   -- has a fault
-  abbrev pub Decides : (before after : S) → (old new : Option (List ℕ)) → Status → Type 0
-  Decides before after old new Done = DecidesFile before after old new
-  Decides before after old new Failed = TellsTable before after old new
-  Decides before after old new Misused = ⊥
+  abbrev pub DecidesJob : (before after : S) → (old new : Option (List ℕ)) → ExitStatus → Type 0
+  DecidesJob before after old new Done = DecidesFile before after old new
+  DecidesJob before after old new Failed = PrintsDecideFault before after old new
+  DecidesJob before after old new Misused = ⊥

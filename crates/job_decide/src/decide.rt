@@ -7,8 +7,8 @@ ghost use Rattle.clap.specs.Walk.{rows_of};
 ghost use Rattle.clap.specs.Matches.{found_of};
 ghost use Rattle.job_parts.specs.Stops.{StopsBy};
 ghost use Rattle.job_decide.specs.DecideJob.{NamesDecide, RefusesDecide, decide_app};
-ghost use Rattle.job_decide.specs.DecidedFile.{Decides, IsNotDecided, IsReady, IsUnready};
-ghost use Rattle.job_decide.specs.DecidedLines.{DecidesLine, IsBadLine};
+ghost use Rattle.job_decide.specs.DecidedFile.{DecidesJob, IsNotDecided, IsReadyToDecide, IsUnready};
+ghost use Rattle.job_decide.specs.DecidedLines.{DecidesLine, IsBadDecideLine};
 ghost use Rattle.job_parts.specs.Inputs.{AreInputs, input};
 ghost use Rattle.job_parts.specs.declared.inputs.Content.TheVariants.{Lines, Table};
 
@@ -21,8 +21,8 @@ use job_parts::arguments::{file, name_of, option};
 use job_parts::inputs::{Content, InputFile, Inputs};
 use job_parts::options::{maps_option, ports_of, sizes_of};
 use job_parts::programs::text_in;
-use job_parts::status::Status;
-use job_parts::stops::{Halt, LineHalt};
+use job_parts::status::ExitStatus;
+use job_parts::stops::{JobStop, LineStop};
 use job_parts::storage::Files;
 use job_parts::turns::{TakesLines, take_lines};
 use job_parts::usage::UsageFault;
@@ -120,10 +120,10 @@ struct Deciding<'a> {
 impl TakesLines for Deciding<'_> {
     ghost takes = { DecidesLine };
 
-    ghost stops = { IsBadLine };
+    ghost stops = { IsBadDecideLine };
 
     /// Takes one line, and decides on the packet that it ends.
-    fn take<W: Write>(&mut self, alloc: Global, line: &str, out: &mut W) -> Result<(), LineHalt> {
+    fn take<W: Write>(&mut self, alloc: Global, line: &str, out: &mut W) -> Result<(), LineStop> {
         let Some((port, packet)) = self.feeds.take_line(alloc, line)? else {
             return Ok(());
         };
@@ -145,7 +145,7 @@ fn ready<'a, F: Files>(
     words: &'a DecideWords,
     files: &mut F,
 ) -> Result<(String, Deciding<'a>), NoTable<'a>>
-    ensures ready { IfOk result (λ made. IsReady F.reads words.now files.old
+    ensures ready { IfOk result (λ made. IsReadyToDecide F.reads words.now files.old
         (string_bytes made.0) made.1 files.new) }
     ensures unready { IfErr result (IsUnready F.reads words.now files.old files.new) }
 {
@@ -175,8 +175,8 @@ pub fn decide_file<'a, F: Files, W: Write>(
     words: &'a DecideWords,
     files: &mut F,
     out: &mut W,
-) -> Result<Status, Halt<'a>>
-    ensures done { IfOk result (Decides F.reads words.now files.old files.new
+) -> Result<ExitStatus, JobStop<'a>>
+    ensures done { IfOk result (DecidesJob F.reads words.now files.old files.new
         (W.contents out.old) (W.contents out.new)) }
     ensures stops { IfErr result (StopsBy (IsNotDecided F.reads words.now files.old files.new
         (W.contents out.old) (W.contents out.new))) }
@@ -184,12 +184,12 @@ pub fn decide_file<'a, F: Files, W: Write>(
     match ready(alloc, words, files) {
         Ok((text, mut deciding)) => {
             take_lines(alloc, &mut deciding, text.as_str(), out)?;
-            Ok(Status::Done)
+            Ok(ExitStatus::Done)
         }
-        Err(NoTable::Ended(fault)) => Err(Halt::Ended(fault)),
+        Err(NoTable::Ended(fault)) => Err(JobStop::Ended(fault)),
         Err(NoTable::BadTable(fault)) => {
             print_table_fault(out, &fault)?;
-            Ok(Status::Failed)
+            Ok(ExitStatus::Failed)
         }
     }
 }

@@ -6,16 +6,16 @@ ghost use Rattle.policy_table.specs.PortTables.{lines_at};
 ghost use Rattle.policy_table.specs.Ports.{rules_at};
 ghost use Rattle.job_parts.specs.Printed.{PrintsMore, Prints};
 ghost use Rattle.job_parts.specs.Stops.{StopsLineBy};
-ghost use Rattle.job_decide.specs.Decided.{IsRefused, TellsCommand, TellsDecision, TellsMatch, TellsPacket, TellsStatus, told_passed};
+ghost use Rattle.job_decide.specs.Decided.{IsMemoryRefused, PrintsCommand, PrintsDecision, PrintsMatch, PrintsPacket, PrintsStatus, reported_passed};
 ghost use Rattle.job_decide.specs.DecideJob.{match_line, rule_text, ticket_text};
-ghost use Rattle.job_decide.specs.Tables.{line_of};
+ghost use Rattle.job_decide.specs.Tables.{decision_line_of};
 ghost use Rattle.rmap.specs.Checks.{header_check};
 ghost use Rattle.rmap.specs.Command.{discard_of};
 
 use crate::reasons::{fault_text, reasons};
-use crate::tables::line_of;
+use crate::tables::decision_line_of;
 use job_nodes::judge::print_discard;
-use job_parts::stops::LineHalt;
+use job_parts::stops::LineStop;
 use machine::Call;
 use policy::{Counts, Match, Passed, Policy, PortRule, Table};
 use rmap::{Command, Status, Verdict, Windows, header_check};
@@ -32,7 +32,7 @@ fn print_more<W: Write>(out: &mut W, text: &str) -> io::Result<()>
 
 /// Prints that a check of its header answers a command: `PORT answered S: `, and the reason.
 fn print_answered<W: Write>(out: &mut W, port: u8, status: Status, reason: &str) -> io::Result<()>
-    ensures { OnOk result (TellsStatus port status (W.contents out.old) (W.contents out.new)) }
+    ensures { OnOk result (PrintsStatus port status (W.contents out.old) (W.contents out.new)) }
 {
     let code = status.code();
     write!(out, "{port} answered {code}: ")?;
@@ -51,10 +51,10 @@ fn print_rule<W: Write>(out: &mut W, port: u8, line: Option<usize>) -> io::Resul
 
 /// The line of the rule of this number, if there is one. The rules are in these lines.
 fn line_in(lines: &[usize], number: Option<usize>) -> Option<usize>
-    ensures { result ≡ option_map (λ number. line_of lines.now number) number }
+    ensures { result ≡ option_map (λ number. decision_line_of lines.now number) number }
 {
     match number {
-        Some(number) => Some(line_of(lines, number)),
+        Some(number) => Some(decision_line_of(lines, number)),
         None => None,
     }
 }
@@ -91,7 +91,7 @@ fn passed_by(
     draws: &[Call],
 ) -> Result<Vec<Passed>, AllocError>
     ensures { IfOk result (λ all. all.items
-        ≡ told_passed verdict table.now (header front.now tail.now) draws.now) }
+        ≡ reported_passed verdict table.now (header front.now tail.now) draws.now) }
 {
     match verdict {
         Verdict::Authorised => Ok(Vec::new(alloc)),
@@ -141,10 +141,10 @@ fn decide_admitted<W: Write>(
     counts: &mut Counts,
     command: &Command,
     out: &mut W,
-) -> Result<(), LineHalt>
-    ensures told { OnOk result (TellsDecision at.entry.port at.entry.policy.now command.now counts.old counts.new
+) -> Result<(), LineStop>
+    ensures reported { OnOk result (PrintsDecision at.entry.port at.entry.policy.now command.now counts.old counts.new
         (W.contents out.old) (W.contents out.new)) }
-    ensures stops { IfErr result (StopsLineBy (IsRefused (W.contents out.old) (W.contents out.new))) }
+    ensures stops { IfErr result (StopsLineBy (IsMemoryRefused (W.contents out.old) (W.contents out.new))) }
 {
     let (front, tail) = (command.front(), command.tail());
     let PortPolicy { policy, port } = at;
@@ -171,11 +171,11 @@ fn decide_on<W: Write>(
     counts: &mut Counts,
     command: &Command,
     out: &mut W,
-) -> Result<(), LineHalt>
-    ensures told { OnOk result (TellsCommand at.entry.port at.entry.policy.now command.now
+) -> Result<(), LineStop>
+    ensures reported { OnOk result (PrintsCommand at.entry.port at.entry.policy.now command.now
         (header_check command.now windows.now) counts.old counts.new
         (W.contents out.old) (W.contents out.new)) }
-    ensures stops { IfErr result (StopsLineBy (IsRefused (W.contents out.old) (W.contents out.new))) }
+    ensures stops { IfErr result (StopsLineBy (IsMemoryRefused (W.contents out.old) (W.contents out.new))) }
 {
     match header_check(command, windows) {
         Ok(_place) => decide_admitted(alloc, at, counts, command, out),
@@ -199,11 +199,11 @@ pub fn decide_packet<W: Write>(
     port: u8,
     packet: &Packet,
     out: &mut W,
-) -> Result<(), LineHalt>
-    ensures told { OnOk result (TellsPacket windows.now port policy.now packet.now
+) -> Result<(), LineStop>
+    ensures reported { OnOk result (PrintsPacket windows.now port policy.now packet.now
         (discard_of packet.now.bytes)
         counts.old counts.new (W.contents out.old) (W.contents out.new)) }
-    ensures stops { IfErr result (StopsLineBy (IsRefused (W.contents out.old) (W.contents out.new))) }
+    ensures stops { IfErr result (StopsLineBy (IsMemoryRefused (W.contents out.old) (W.contents out.new))) }
 {
     match Command::view(packet) {
         Ok(command) => {

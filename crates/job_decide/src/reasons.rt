@@ -116,7 +116,7 @@ fn add_no_place(text: &mut String, miss: NoPlace) -> Result<(), AllocError> {
         NoPlace::OutsideBank { address } => {
             writeln!(text, "the address {address:08X} is in no bank")
         }
-        NoPlace::BehindBank { address, length } => {
+        NoPlace::AfterBank { address, length } => {
             let last = (u64::from(address) + u64::from(length)).saturating_sub(1);
             writeln!(
                 text,

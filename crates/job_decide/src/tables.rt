@@ -1,7 +1,7 @@
 //! The tables of files.
 
 ghost use Rattle.std.specs.Prelude.{◌≡◌, IfErr, IfOk, OnOk, string_bytes};
-ghost use Rattle.job_decide.specs.Tables.{HoldsDrawn, HoldsTable, HoldsText, IsNoTable, IsNotDrawn, TellsTableFault, line_of};
+ghost use Rattle.job_decide.specs.Tables.{HoldsDrawn, HoldsSoundTable, HoldsTableText, LacksTable, IsNotDrawn, PrintsTableFault, decision_line_of};
 ghost use Rattle.job_decide.specs.declared.tables.NoTable.TheVariants.{BadTable, Ended};
 ghost use Rattle.job_parts.specs.declared.faults.Fault.TheVariants.{NoMemory};
 
@@ -58,8 +58,8 @@ pub fn table_in<'a, F: Files>(
     sizes: &MapSizes,
 ) -> Result<Policy, NoTable<'a>>
     ensures table { IfOk result (λ table.
-        HoldsTable F.reads files.old name.now sizes.now table files.new) }
-    ensures none { IfErr result (IsNoTable F.reads files.old name.now sizes.now files.new) }
+        HoldsSoundTable F.reads files.old name.now sizes.now table files.new) }
+    ensures none { IfErr result (LacksTable F.reads files.old name.now sizes.now files.new) }
 {
     let text = text_in(alloc, files, name)?;
     Ok(Policy::read_for(alloc, text.as_str(), sizes)?)
@@ -77,7 +77,7 @@ pub fn text_and_table<'a, F: Files>(
     name: &'a str,
     sizes: &MapSizes,
 ) -> Result<(String, Policy), NoTable<'a>>
-    ensures table { IfOk result (λ made. HoldsText F.reads files.old name.now sizes.now
+    ensures table { IfOk result (λ made. HoldsTableText F.reads files.old name.now sizes.now
         (string_bytes made.0) made.1 files.new) }
     ensures none { IfErr result (IsNotDrawn F.reads files.old name.now sizes.now files.new) }
 {
@@ -111,7 +111,7 @@ pub fn drawn_in<'a, F: Files>(
 ///
 /// The error of `out`, if it does not take all of the text.
 pub fn print_table_fault<W: Write>(out: &mut W, fault: &TextFault) -> io::Result<()>
-    ensures { OnOk result (TellsTableFault fault.now (W.contents out.old) (W.contents out.new)) }
+    ensures { OnOk result (PrintsTableFault fault.now (W.contents out.old) (W.contents out.new)) }
 {
     let code = fault.fault().code();
     writeln!(out, "policy fault {code}")?;
@@ -119,8 +119,8 @@ pub fn print_table_fault<W: Write>(out: &mut W, fault: &TextFault) -> io::Result
 }
 
 /// The line of the rule of this number, from 1. The rules are in these lines; 0 if there is no such rule.
-pub fn line_of(lines: &[usize], number: usize) -> usize
-    ensures { result ≡ line_of lines.now number }
+pub fn decision_line_of(lines: &[usize], number: usize) -> usize
+    ensures { result ≡ decision_line_of lines.now number }
 {
     lines.get(number.saturating_sub(1)).copied().unwrap_or(0)
 }

@@ -1,3 +1,3 @@
 pub mod Answering
 pub mod FramesJob
-pub mod Told
+pub mod Reported

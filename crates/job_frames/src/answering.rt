@@ -2,20 +2,20 @@
 
 ghost use Rattle.std.specs.Prelude.{◌≡◌, ◌≤◌, ◌+◌, ◌++◌, [], ℕ, IfOk, OnErr, OnOk, length};
 ghost use Rattle.std.specs.Vec.{vec_capacity, vec_len};
-ghost use Rattle.job_frames.specs.Answering.{Answers, AnswersPacket, AreNone, EndsWith, IsFaultDue, Refuses, cut_text, due_of, first_answering};
-ghost use Rattle.job_frames.specs.Told.{discard_words, served_text};
+ghost use Rattle.job_frames.specs.Answering.{AnswersLinkFrame, AnswersPacket, AreNone, EndsText, IsFaultDue, RefusesFrame, cut_text, due_bytes_of, first_answering};
+ghost use Rattle.job_frames.specs.Reported.{discard_words, served_text};
 ghost use Rattle.job_nodes.specs.JobNode.{alone};
 ghost use Rattle.job_parts.specs.Printed.{Prints};
 ghost use Rattle.scrub.specs.Guarded.{is_damaged};
 
 use crate::faults::print_fault;
-use frames::{Came, FrameFault, HEAD_LENGTH, reply_head};
+use frames::{Received, FrameFault, HEAD_LENGTH, reply_head};
 use job_live::answering::{CODE, hand_out, make_room};
-use job_live::entries::{put_left, room_of, turn_left};
+use job_live::entries::{put_left, text_room_of, turn_left};
 use job_live::putting::{put, put_discard_code};
 use job_live::scrub_lines::{MOST_OF_SCRUB, put_found};
 use job_nodes::live_node::LiveNode;
-use linking::{Cannot, Due, Target};
+use linking::{CannotTransfer, PendingOutput, Target};
 use node_parts::{Served, Stop};
 use rmap::MAX_REPLY;
 use spw::Packet;
@@ -38,7 +38,7 @@ fn put_due(frame: &mut Vec<u8>, reply: &[u8])
     requires reply { length reply.now ≤ MAX_REPLY }
     requires none { frame.old.items ≡ [] }
     requires room { HEAD_LENGTH + MAX_REPLY ≤ vec_capacity frame.old }
-    ensures { frame.new.items ≡ due_of reply.now }
+    ensures { frame.new.items ≡ due_bytes_of reply.now }
 {
     if reply.is_empty() {
         return;
@@ -58,8 +58,8 @@ fn discard_words(alloc: Global, frame: u64) -> io::Result<Vec<u8>>
 
 /// Puts what became of a packet after a text: if the packet was discarded, these words and then the number of the
 /// discard. The condition is room for them, for that number, and for the end of the line.
-#[tactic(auto, using(crate::proofs::Told::no_more))]
-fn tell_served(text: &mut Vec<u8>, words: &[u8], served: Served)
+#[tactic(auto, using(crate::proofs::Reported::no_more))]
+fn report_served(text: &mut Vec<u8>, words: &[u8], served: Served)
     requires { vec_len text.old + (length words.now + CODE) ≤ vec_capacity text.old }
     ensures { (frame : ℕ) → words.now ≡ discard_words frame
         → text.new.items ≡ text.old.items ++ served_text frame served }
@@ -76,14 +76,14 @@ fn tell_served(text: &mut Vec<u8>, words: &[u8], served: Served)
 
 /// Makes room in the journal for the command of a packet and serves the packet. Gives the reply that is due, and what
 /// is reported. It takes memory before it does anything.
-#[tactic(auto, using(crate::proofs::Told::packet_answered))]
+#[tactic(auto, using(crate::proofs::Reported::packet_answered))]
 fn answer_packet(
     alloc: Global,
     node: &mut LiveNode,
     at_once: bool,
     packet: Packet,
     frame: u64,
-) -> io::Result<Due>
+) -> io::Result<PendingOutput>
     ensures due { IfOk result (λ due. AnswersPacket at_once packet frame node.old node.new
         due.reply.items due.text.items) }
     ensures kept { OnErr result (node.new ≡ node.old) }
@@ -91,7 +91,7 @@ fn answer_packet(
     let words = discard_words(alloc, frame)?;
     let mut reply = Vec::with_capacity(alloc, MOST_OF_REPLY)?;
     let mut text = Vec::new(alloc);
-    let more = words.len() + MOST_BESIDE + room_of(at_once);
+    let more = words.len() + MOST_BESIDE + text_room_of(at_once);
     make_room(node, more, &mut text)?;
     // A node has a port.
     let _ports = node.ports();
@@ -99,23 +99,23 @@ fn answer_packet(
     put_due(&mut reply, node.reply());
     put_found(&mut text, answer.found);
     put_left(&mut text, node.single(), at_once);
-    tell_served(&mut text, words.as_slice(), answer.told.served);
+    report_served(&mut text, words.as_slice(), answer.reported.served);
     turn_left(node, at_once);
-    Ok(Due { reply, text })
+    Ok(PendingOutput { reply, text })
 }
 
 /// That no bytes are due, and no text.
-fn nothing_due(alloc: Global) -> Due
+fn nothing_due(alloc: Global) -> PendingOutput
     ensures { AreNone result.reply.items result.text.items }
 {
-    Due {
+    PendingOutput {
         reply: Vec::new(alloc),
         text: Vec::new(alloc),
     }
 }
 
 /// What is due for a frame that is for a bridge: that it has that fault.
-fn fault_due(alloc: Global, frame: u64) -> io::Result<Due>
+fn fault_due(alloc: Global, frame: u64) -> io::Result<PendingOutput>
     ensures { IfOk result (λ due. IsFaultDue frame due.reply.items due.text.items) }
 {
     let mut due = nothing_due(alloc);
@@ -189,7 +189,7 @@ impl Answering {
     ///
     /// An error if memory is refused. The node is then as before.
     pub fn end(&mut self, is_whole: bool) -> io::Result<Vec<u8>>
-        ensures ends { IfOk result (λ text. EndsWith is_whole self.old self.new.node text.items) }
+        ensures ends { IfOk result (λ text. EndsText is_whole self.old self.new.node text.items) }
         ensures kept { OnErr result (self.new ≡ self.old) }
     {
         let mut text = Vec::new(self.alloc);
@@ -200,38 +200,38 @@ impl Answering {
 }
 
 impl Target for Answering {
-    ghost served = { Answers };
+    ghost served = { AnswersLinkFrame };
 
-    ghost unserved = { Refuses };
+    ghost unserved = { RefusesFrame };
 
-    fn serve(&mut self, came: Came) -> Result<Due, Cannot> {
+    fn serve(&mut self, received: Received) -> Result<PendingOutput, CannotTransfer> {
         let frame = self.count.saturating_add(1);
-        match came {
-            Came::Whole(packet) => {
+        match received {
+            Received::Whole(packet) => {
                 if self.node.is_damaged() {
-                    return Err(Cannot);
+                    return Err(CannotTransfer);
                 }
                 let at_once = self.at_once;
                 let Ok(due) = answer_packet(self.alloc, &mut self.node, at_once, packet, frame)
                 else {
-                    return Err(Cannot);
+                    return Err(CannotTransfer);
                 };
                 self.count = frame;
                 self.is_open = false;
                 Ok(due)
             }
-            Came::Piece => {
+            Received::Piece => {
                 self.count = frame;
                 self.is_open = true;
                 Ok(nothing_due(self.alloc))
             }
-            Came::Time => {
+            Received::Time => {
                 self.count = frame;
                 Ok(nothing_due(self.alloc))
             }
-            Came::Other(_) => {
+            Received::Other(_) => {
                 let Ok(due) = fault_due(self.alloc, frame) else {
-                    return Err(Cannot);
+                    return Err(CannotTransfer);
                 };
                 self.count = frame;
                 Ok(due)

@@ -1,7 +1,7 @@
 //! What is reported of a frame.
 
 ghost use Rattle.std.specs.Prelude.{OnOk};
-ghost use Rattle.job_frames.specs.Told.{fault_line};
+ghost use Rattle.job_frames.specs.Reported.{frame_fault_line};
 ghost use Rattle.job_parts.specs.Printed.{Prints};
 
 use frames::FrameFault;
@@ -13,7 +13,7 @@ use std::io::{self, Write};
 ///
 /// The error of `out`, if it does not take all of the text.
 pub fn print_fault<W: Write>(out: &mut W, frame: u64, fault: FrameFault) -> io::Result<()>
-    ensures { OnOk result (Prints W.contents out.old out.new (fault_line frame fault)) }
+    ensures { OnOk result (Prints W.contents out.old out.new (frame_fault_line frame fault)) }
 {
     let code = fault.code();
     writeln!(out, "frame {frame} fault {code}")

@@ -1,8 +1,8 @@
 //! The job `live --frames`.
 
 ghost use Rattle.std.specs.Prelude.{◌≡◌, IfErr, IfOk, OnOk};
-ghost use Rattle.job_live.specs.LiveJob.{TellsLast};
-ghost use Rattle.job_frames.specs.FramesJob.{AreReady, HoldsFrames, HoldsLink, IsEndUntold, IsFramesUnsent, IsHalt, IsNoLink, IsUnheld, LivesFrames, StopsLink, TellsEnd, refusal_of, status_of};
+ghost use Rattle.job_live.specs.LiveJob.{SendsLast};
+ghost use Rattle.job_frames.specs.FramesJob.{AreReady, HoldsFrames, HoldsLink, IsEndUnreported, IsFramesUnsent, IsFramesHalt, IsNoLink, IsUnheld, LivesFrames, StopsLink, PrintsEnd, frame_refusal_of, link_status_of};
 
 use crate::answering::Answering;
 use frames::FrameReader;
@@ -11,10 +11,10 @@ use job_live::words::LiveWords;
 use job_nodes::live_node::LiveNode;
 use job_nodes::sources::{node_from, place_of};
 use job_parts::faults::Fault;
-use job_parts::status::Status;
-use job_parts::stops::{Halt, WriteFault};
+use job_parts::status::ExitStatus;
+use job_parts::stops::{JobStop, WriteFault};
 use job_parts::storage::Files;
-use linking::{Broken, Link, hold};
+use linking::{LinkEnd, Link, hold};
 use std::alloc::Global;
 use std::io::Write;
 
@@ -38,8 +38,8 @@ fn ends_of_link<'a, F: Files>(
 }
 
 /// Why a packet was not served, by whether the node is damaged.
-fn refusal_of<'a>(is_damaged: bool) -> Fault<'a>
-    ensures { result ≡ refusal_of is_damaged }
+fn frame_refusal_of<'a>(is_damaged: bool) -> Fault<'a>
+    ensures { result ≡ frame_refusal_of is_damaged }
 {
     if is_damaged {
         return Fault::Damaged;
@@ -48,33 +48,33 @@ fn refusal_of<'a>(is_damaged: bool) -> Fault<'a>
 }
 
 /// Why the job stops if a link was cut off so, by whether the node is damaged.
-fn halt_of<'a>(why: Broken, is_damaged: bool) -> Halt<'a>
-    ensures { IsHalt is_damaged why result }
+fn halt_of<'a>(why: LinkEnd, is_damaged: bool) -> JobStop<'a>
+    ensures { IsFramesHalt is_damaged why result }
 {
     match why {
-        Broken::Unread => Halt::Ended(Fault::CannotRead(STANDARD_INPUT)),
-        Broken::NoMemory => Halt::Ended(refusal_of(is_damaged)),
-        Broken::Unsent | Broken::Untold => Halt::Unwritten(WriteFault),
+        LinkEnd::Unread => JobStop::Ended(Fault::CannotRead(STANDARD_INPUT)),
+        LinkEnd::NoMemory => JobStop::Ended(frame_refusal_of(is_damaged)),
+        LinkEnd::Unsent | LinkEnd::Unreported => JobStop::Unwritten(WriteFault),
     }
 }
 
 /// Reports what is due when no more bytes come.
-fn tell_end<'a, L: Link>(
+fn report_end<'a, L: Link>(
     answering: &mut Answering,
     is_whole: bool,
     link: &mut L,
-) -> Result<(), Halt<'a>>
-    ensures told { OnOk result (TellsEnd L.told is_whole answering.old answering.new.node
+) -> Result<(), JobStop<'a>>
+    ensures reported { OnOk result (PrintsEnd L.reported is_whole answering.old answering.new.node
         link.old link.new) }
-    ensures stops { IfErr result (IsEndUntold L.untold is_whole answering.old answering.new.node
+    ensures stops { IfErr result (IsEndUnreported L.unreported is_whole answering.old answering.new.node
         link.old link.new) }
 {
     let Ok(text) = answering.end(is_whole) else {
-        return Err(Halt::Ended(Fault::NoMemory));
+        return Err(JobStop::Ended(Fault::NoMemory));
     };
     match link.tell(text.as_slice()) {
         Ok(()) => Ok(()),
-        Err(_) => Err(Halt::Unwritten(WriteFault)),
+        Err(_) => Err(JobStop::Unwritten(WriteFault)),
     }
 }
 
@@ -83,17 +83,17 @@ fn hold_to_end<'a, L: Link>(
     reader: &mut FrameReader,
     answering: &mut Answering,
     link: &mut L,
-) -> Result<bool, Halt<'a>>
-    ensures held { IfOk result (HoldsLink L.came L.sent L.told reader.old reader.new
+) -> Result<bool, JobStop<'a>>
+    ensures held { IfOk result (HoldsLink L.received L.sent L.reported reader.old reader.new
         answering.old answering.new.node link.old link.new) }
-    ensures stops { IfErr result (StopsLink L.came L.sent L.told L.unread L.unsent L.untold
+    ensures stops { IfErr result (StopsLink L.received L.sent L.reported L.unread L.unsent L.unreported
         reader.old reader.new answering.old answering.new.node link.old link.new) }
 {
     if let Err(why) = hold(reader, answering, link) {
         return Err(halt_of(why, answering.is_damaged()));
     }
     let is_whole = reader.is_between() && !answering.is_open();
-    tell_end(answering, is_whole, link)?;
+    report_end(answering, is_whole, link)?;
     Ok(is_whole)
 }
 
@@ -103,10 +103,10 @@ fn hold_on<'a, F: Files, L: Link>(
     words: &'a LiveWords,
     files: &mut F,
     link: &mut L,
-) -> Result<bool, Halt<'a>>
-    ensures held { IfOk result (HoldsFrames F.reads L.came L.sent L.told L.unread L.unsent L.untold
+) -> Result<bool, JobStop<'a>>
+    ensures held { IfOk result (HoldsFrames F.reads L.received L.sent L.reported L.unread L.unsent L.unreported
         words.now files.old files.new link.old link.new) }
-    ensures stops { IfErr result (IsUnheld F.reads L.came L.sent L.told L.unread L.unsent L.untold
+    ensures stops { IfErr result (IsUnheld F.reads L.received L.sent L.reported L.unread L.unsent L.unreported
         words.now files.old files.new link.old link.new) }
 {
     let (mut reader, mut answering) = ends_of_link(alloc, words, files)?;
@@ -115,29 +115,29 @@ fn hold_on<'a, F: Files, L: Link>(
 
 /// Reports the fault that cut a link off. If memory is refused to its line, it reports that there is none.
 fn tell<L: Link>(alloc: Global, fault: &Fault<'_>, link: &mut L) -> Result<(), WriteFault>
-    ensures told { OnOk result (TellsLast L.told fault.now link.old link.new) }
-    ensures lost { IfErr result (λ _. TellsLast L.untold fault.now link.old link.new) }
+    ensures reported { OnOk result (SendsLast L.reported fault.now link.old link.new) }
+    ensures lost { IfErr result (λ _. SendsLast L.unreported fault.now link.old link.new) }
 {
     let mut text = Vec::new(alloc);
-    let told = match writeln!(text, "{fault}") {
+    let reported = match writeln!(text, "{fault}") {
         Ok(()) => link.tell(text.as_slice()),
         Err(_) => link.tell(NO_MEMORY),
     };
-    told.map_err(|_| WriteFault)
+    reported.map_err(|_| WriteFault)
 }
 
 /// The exit status of a link that was held to its end.
-fn status_of(is_whole: bool, has_lost: bool) -> Status
-    ensures { result ≡ status_of is_whole has_lost }
+fn link_status_of(is_whole: bool, has_lost: bool) -> ExitStatus
+    ensures { result ≡ link_status_of is_whole has_lost }
 {
     if is_whole {
         if has_lost {
-            Status::Failed
+            ExitStatus::Failed
         } else {
-            Status::Done
+            ExitStatus::Done
         }
     } else {
-        Status::Failed
+        ExitStatus::Failed
     }
 }
 
@@ -160,19 +160,19 @@ pub fn live_frames<F: Files, L: Link>(
     files: &mut F,
     link: &mut L,
     place: &mut Option<String>,
-) -> Result<Status, WriteFault>
-    ensures lives { IfOk result (LivesFrames F.reads L.came L.sent L.told L.unread L.unsent L.untold
+) -> Result<ExitStatus, WriteFault>
+    ensures lives { IfOk result (LivesFrames F.reads L.received L.sent L.reported L.unread L.unsent L.unreported
         words.now L.lost files.old files.new link.old link.new) }
-    ensures unsent { IfErr result (IsFramesUnsent F.reads L.came L.sent L.told L.unread L.unsent
-        L.untold words.now files.old files.new link.old link.new) }
+    ensures unsent { IfErr result (IsFramesUnsent F.reads L.received L.sent L.reported L.unread L.unsent
+        L.unreported words.now files.old files.new link.old link.new) }
 {
     match hold_on(alloc, words, files, link) {
-        Ok(is_whole) => Ok(status_of(is_whole, link.has_lost())),
+        Ok(is_whole) => Ok(link_status_of(is_whole, link.has_lost())),
         Err(halt) => {
             let fault = halt.fault()?;
             tell(alloc, &fault, link)?;
             *place = place_of(fault);
-            Ok(Status::Failed)
+            Ok(ExitStatus::Failed)
         }
     }
 }

@@ -3,7 +3,7 @@
 ghost use Rattle.std.specs.Prelude.{◌≡◌, OnOk};
 ghost use Rattle.std.specs.Io.KnownBytes.{Appends};
 
-use linking::{Cannot, Link};
+use linking::{CannotTransfer, Link};
 use std::io::{self, Read, Write};
 
 /// A link over a reader and a writer, and a writer for what is reported, as standard error. It asks the reader for what
@@ -15,7 +15,7 @@ pub struct HostLink<I: Read + Drop, W: Write + Drop, E: Write + Drop> {
     output: W,
     errors: E,
     lost: io::Result<()>,
-    untold: u64,
+    unreported: u64,
 }
 
 /// Writes all of the bytes, and holds none of them back.
@@ -32,22 +32,22 @@ impl<I: Read + Drop, W: Write + Drop, E: Write + Drop> HostLink<I, W, E> {
         ensures input { result.input ≡ input }
         ensures output { result.output ≡ output }
         ensures errors { result.errors ≡ errors }
-        ensures untold { result.untold ≡ 0 }
+        ensures unreported { result.unreported ≡ 0 }
     {
         HostLink {
             input,
             output,
             errors,
             lost: Ok(()),
-            untold: 0,
+            unreported: 0,
         }
     }
 
     /// How many texts could not be reported.
-    pub fn untold(&self) -> u64
-        ensures { result ≡ self.now.untold }
+    pub fn unreported(&self) -> u64
+        ensures { result ≡ self.now.unreported }
     {
-        self.untold
+        self.unreported
     }
 
     /// The writer, and why the last bytes could not be sent, if they could not.
@@ -61,48 +61,48 @@ impl<I: Read + Drop, W: Write + Drop, E: Write + Drop> HostLink<I, W, E> {
 impl<I: Read + Drop, W: Write + Drop, E: Write + Drop> Link for HostLink<I, W, E> {
     ghost use Rattle.std.specs.Prelude.{ℕ, List, Option, nat_lt, ⊤};
     ghost use Rattle.std.specs.Io.KnownBytes.{Appends, Consumes, Keeps};
-    ghost use Rattle.job_frames.specs.Told.{IsTold};
+    ghost use Rattle.job_frames.specs.Reported.{IsTextReported};
 
-    ghost came = { λ before bytes after.
+    ghost received = { λ before bytes after.
         Consumes (I.remaining before.input) (I.remaining after.input) bytes };
 
     ghost sent = { λ before bytes after.
         Appends (W.contents before.output) (W.contents after.output) bytes };
 
-    ghost told = { λ before text after.
-        IsTold (E.contents before.errors) (E.contents after.errors) text before.untold after.untold };
+    ghost reported = { λ before text after.
+        IsTextReported (E.contents before.errors) (E.contents after.errors) text before.unreported after.unreported };
 
     ghost unread = { λ before after. Keeps (I.remaining before.input) (I.remaining after.input) };
 
     ghost unsent = { λ _ _ _. ⊤ };
 
-    ghost untold = { λ _ _ _. ⊥ };
+    ghost unreported = { λ _ _ _. ⊥ };
 
-    ghost lost = { λ link. nat_lt 0 link.untold };
+    ghost lost = { λ link. nat_lt 0 link.unreported };
 
-    fn receive(&mut self, room: &mut [u8]) -> Result<usize, Cannot> {
-        self.input.read(room).map_err(|_| Cannot)
+    fn receive(&mut self, room: &mut [u8]) -> Result<usize, CannotTransfer> {
+        self.input.read(room).map_err(|_| CannotTransfer)
     }
 
-    fn send(&mut self, bytes: &[u8]) -> Result<(), Cannot> {
+    fn send(&mut self, bytes: &[u8]) -> Result<(), CannotTransfer> {
         self.lost = write_through(&mut self.output, bytes);
         match self.lost {
             Ok(()) => Ok(()),
-            Err(_) => Err(Cannot),
+            Err(_) => Err(CannotTransfer),
         }
     }
 
-    fn tell(&mut self, text: &[u8]) -> Result<(), Cannot> {
+    fn tell(&mut self, text: &[u8]) -> Result<(), CannotTransfer> {
         match write_through(&mut self.errors, text) {
             Ok(()) => Ok(()),
             Err(_) => {
-                self.untold = self.untold.saturating_add(1);
+                self.unreported = self.unreported.saturating_add(1);
                 Ok(())
             }
         }
     }
 
     fn has_lost(&self) -> bool {
-        0 < self.untold
+        0 < self.unreported
     }
 }

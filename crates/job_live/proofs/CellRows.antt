@@ -26,6 +26,6 @@ rows_more row n =
 pub row_printed : (row : ℕ → List ℕ) (n : ℕ) (text : List ℕ) (old mid new : Option (List ℕ)) → text ≡ row n
     → Appends old mid (flat_map row (range_with_len 0 n)) → Appends mid new text
     → Appends old new (flat_map row (range_with_len 0 (n + 1)))
-row_printed row n text old mid new is before told =
+row_printed row n text old mid new is before reported =
     subst (λ (l : List ℕ). Appends old new l) (sym (rows_more row n))
-    (Appends-trans old mid new _ _ before (subst (λ (l : List ℕ). Appends mid new l) is told))
+    (Appends-trans old mid new _ _ before (subst (λ (l : List ℕ). Appends mid new l) is reported))

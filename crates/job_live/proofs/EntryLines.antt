@@ -8,7 +8,7 @@ use Rattle.std.proofs.lemmas.List.{append-nil, take_more}
 use Rattle.bank.specs.Records.{EntryValue, is_whole}
 use Rattle.rmap.specs.Codes.{status_code}
 use Rattle.rmap.specs.declared.status.Status.{Status}
-use Rattle.job_live.specs.Telling.{damaged_line, entry_line, entry_words, whole_line}
+use Rattle.job_live.specs.Reporting.{damaged_line, entry_line, entry_words, whole_line}
 
 -- the line of an entry, by whether it is as it was made
 pub line_by : (entry : EntryValue) (whole : Bool) → is_whole entry ≡ whole → entry_line entry ≡ (if whole then whole_line entry else damaged_line)
@@ -28,11 +28,11 @@ pub own_words : (old new : Option (List ℕ)) (entry : EntryValue) (port number 
     → generation ≡ entry.generation → verdict ≡ entry.verdict → code ≡ status_code status → status ≡ entry.status
     → Appends old new (entry_words port number generation verdict code)
     → Appends old new (entry_words entry.port entry.number entry.generation entry.verdict (status_code entry.status))
-own_words old new entry port number generation verdict code status is_port is_number is_generation is_verdict is_code is_status told =
+own_words old new entry port number generation verdict code status is_port is_number is_generation is_verdict is_code is_status reported =
     let same =
     ap (λ (n : ℕ). entry_words n number generation verdict code) is_port
     ∙ ap (λ (n : ℕ). entry_words entry.port n generation verdict code) is_number
     ∙ ap (λ (n : ℕ). entry_words entry.port entry.number n verdict code) is_generation
     ∙ ap (λ (n : ℕ). entry_words entry.port entry.number entry.generation n code) is_verdict
     ∙ ap (λ (n : ℕ). entry_words entry.port entry.number entry.generation entry.verdict n) (is_code ∙ ap status_code is_status) in
-    subst (λ (text : List ℕ). Appends old new text) same told
+    subst (λ (text : List ℕ). Appends old new text) same reported

@@ -64,9 +64,9 @@ pub none_more : (text new : List ℕ) → new ≡ text → new ≡ text ++ []
 none_more text new is = is ∙ sym (append-nil text)
 
 -- a line of words, a number and its end
-pub code_behind : (old new : List ℕ) (n : ℕ) (begun words : List ℕ) → new ≡ old ++ (decimal n ++ 10 ∷ []) → old ≡ begun ++ words
+pub code_after : (old new : List ℕ) (n : ℕ) (begun words : List ℕ) → new ≡ old ++ (decimal n ++ 10 ∷ []) → old ≡ begun ++ words
     → new ≡ begun ++ (words ++ decimal n ++ 10 ∷ [])
-code_behind old new n begun words put is =
+code_after old new n begun words put is =
     put ∙ ap (λ (l : List ℕ). l ++ (decimal n ++ 10 ∷ [])) is ∙ append_assoc begun words (decimal n ++ 10 ∷ [])
     ∙ ap (λ (l : List ℕ). begun ++ l) (sym (append_assoc words (decimal n) (10 ∷ [])))
 

@@ -2,8 +2,8 @@
 use Rattle.std.proofs.Common.{◌≡◌, ◌≤◌, ◌<◌, ℕ, List, [], ◌∷◌, Bor, codes, length, map, get_or, refl, sym, ap, subst, ◌∙◌, arith}
 use Rattle.std.proofs.Common.{inl, inr}
 use Rattle.job_parts.specs.declared.bad_lines.BadLine.{BadLine}
-use Rattle.job_live.specs.Asks.{IsAsked}
-use Rattle.job_live.specs.Settings.{AreNoBytes, AreSetWords, IsNoAddress, IsNoByte, IsNoSetting, WritesAddress, WritesByte, WritesBytes}
+use Rattle.job_live.specs.Asks.{IsAskedBy}
+use Rattle.job_live.specs.Settings.{AreNoBytes, AreSetWords, IsNoAddress, IsNoByte, IsNoSetting, WritesAddress, WritesByteDigits, WritesByteList}
 use Rattle.job_live.specs.declared.asks.Asks.TheVariants.{Set}
 
 -- the words at each place
@@ -25,7 +25,7 @@ unset_byte words e a b fault are none =
       bytes = b;
       words_are = are;
       unwritten = λ setting written.
-          none.1 (setting.extended, subst (λ (w : List ℕ). WritesByte w setting.extended) (same_words words e written.extended a b written.address written.bytes are written.words_are).0 written.extended_written);
+          none.1 (setting.extended, subst (λ (w : List ℕ). WritesByteDigits w setting.extended) (same_words words e written.extended a b written.address written.bytes are written.words_are).0 written.extended_written);
     })
 
 -- a word that is no address
@@ -50,7 +50,7 @@ unset_bytes words e a b fault are (inr none) =
       bytes = b;
       words_are = are;
       unwritten = λ setting written.
-          none.1 (setting.bytes.items, subst (λ (w : List ℕ). WritesBytes w setting.bytes.items) (same_words words e written.extended a b written.address written.bytes are written.words_are).2 written.bytes_written);
+          none.1 (setting.bytes.items, subst (λ (w : List ℕ). WritesByteList w setting.bytes.items) (same_words words e written.extended a b written.address written.bytes are written.words_are).2 written.bytes_written);
     })
 
 -- a list of four
@@ -64,7 +64,7 @@ four_words (a ∷ b ∷ e ∷ f ∷ []) d some few = refl
 four_words (a ∷ b ∷ e ∷ f ∷ g ∷ words) d some few = absurd (omega (arith, few))
 
 -- four words of a line that asks for a write
-pub set_words : (words : List (List ℕ)) (first e a b : List ℕ) → words ≡ first ∷ e ∷ a ∷ b ∷ [] → IsAsked words Set → AreSetWords words e a b
+pub set_words : (words : List (List ℕ)) (first e a b : List ℕ) → words ≡ first ∷ e ∷ a ∷ b ∷ [] → IsAskedBy words Set → AreSetWords words e a b
 set_words words first e a b are asked =
     let is : first ≡ codes "set" = ap (λ (l : List (List ℕ)). get_or l 0 []) (sym are ∙ asked.1) in
     record { words_are = are ∙ ap (λ (w : List ℕ). w ∷ e ∷ a ∷ b ∷ []) is }

@@ -6,40 +6,40 @@ use Rattle.node_programs.specs.Published.{sizes_of}
 use Rattle.spw.specs.Line.{IsPort, words_of}
 use Rattle.spw.specs.declared.faults.LineFault.TheVariants.{NoPort, TooLong}
 use Rattle.bank.specs.Records.{JournalValue}
-use Rattle.job_parts.specs.Printed.{fault_line}
+use Rattle.job_parts.specs.Printed.{job_fault_line}
 use Rattle.job_parts.specs.declared.bad_lines.BadLine.{BadLine}
 use Rattle.job_parts.specs.declared.bad_lines.BadLine.TheVariants.{Line, NoPort as NoSuchPort}
 use Rattle.job_parts.specs.declared.faults.Fault.TheVariants.{BadLine as AtLine}
-use Rattle.job_nodes.specs.JobNode.{RefusesLine, SetsBytes, alone}
-use Rattle.job_nodes.specs.LiveNodes.{KeepsGuard, LiveNodeValue, TakesLine}
-use Rattle.job_nodes.specs.declared.live_node.Taken.{Taken}
+use Rattle.job_nodes.specs.JobNode.{RefusesLine, SetsNodeBytes, alone}
+use Rattle.job_nodes.specs.LiveNodes.{KeepsGuard, LiveNodeValue, TakesPacketLine}
+use Rattle.job_nodes.specs.declared.live_node.LineResult.{LineResult}
 use Rattle.single_node.specs.Nodes.{SingleNodeValue, covers_in}
-use Rattle.job_live.specs.Asks.{IsAsked}
+use Rattle.job_live.specs.Asks.{IsAskedBy}
 use Rattle.job_live.specs.CellLines.{cells_text}
-use Rattle.job_live.specs.Entries.{AreEmpty, HandsOutLeft, taken_text}
+use Rattle.job_live.specs.Entries.{AreEmptyJournals, HandsOutLeft, taken_text}
 use Rattle.job_live.specs.Settings.{IsNoSetting, WritesSetting}
-use Rattle.job_live.specs.Journals.{TellsJournals, bank_text}
+use Rattle.job_live.specs.Journals.{PrintsJournals, bank_text}
 use Rattle.job_live.specs.declared.answering.TheConstants.{MAX_LINE}
 use Rattle.job_live.specs.declared.asks.Asks.{Asks}
 use Rattle.job_live.specs.declared.asks.Asks.TheVariants.{Packet, Journal, Cells, Set}
 use Rattle.job_live.specs.declared.settings.Setting.{Setting}
 
 -- the journals were handed out, and their entries were printed
-abbrev pub TellsJournal : (before after : LiveNodeValue) → (old new : Option (List ℕ)) → Type 0
-TellsJournal before after old new = TellsJournals true before after old new
+abbrev pub PrintsJournal : (before after : LiveNodeValue) → (old new : Option (List ℕ)) → Type 0
+PrintsJournal before after old new = PrintsJournals true before after old new
 
 -- the word of each cell of the node's maps was printed, and the node stays
-pub record TellsCells (before after : LiveNodeValue) (old new : Option (List ℕ)) : Type 0 where
+pub record PrintsCells (before after : LiveNodeValue) (old new : Option (List ℕ)) : Type 0 where
   pub same : after ≡ before
   pub printed : Appends old new (cells_text (sizes_of before.node.programs) before.node.words)
 
 -- the journals that are full were handed out, and those that are not stay
 abbrev pub MakesRoom : (before after : LiveNodeValue) → (old new : Option (List ℕ)) → Type 0
-MakesRoom before after old new = TellsJournals false before after old new
+MakesRoom before after old new = PrintsJournals false before after old new
 
 -- if a line ended no packet, nothing was printed; else what came of its packet was printed. The entries that are handed
 -- out at once are among that, and their journals begin anew
-abbrev pub PrintsTaken : (at_once : Bool) → Option Taken → (served after : LiveNodeValue) → (old new : Option (List ℕ)) → Type 0
+abbrev pub PrintsTaken : (at_once : Bool) → Option LineResult → (served after : LiveNodeValue) → (old new : Option (List ℕ)) → Type 0
 PrintsTaken at_once None served after old new = (after ≡ served) × (new ≡ old)
 PrintsTaken at_once (Some taken) served after old new =
     Appends old new (taken_text at_once taken served.node) × HandsOutLeft at_once served after
@@ -47,7 +47,7 @@ PrintsTaken at_once (Some taken) served after old new =
 -- the node took a packet line, and what came of it was printed; or it refuses the line for that fault
 abbrev pub TakesOrRefuses : (at_once : Bool) (line : List ℕ) (fault : Option BadLine) (before after : LiveNodeValue) (old new : Option (List ℕ)) → Type 0
 TakesOrRefuses at_once line None before after old new =
-    (taken : Option Taken) × (served : LiveNodeValue) × TakesLine line taken before served
+    (taken : Option LineResult) × (served : LiveNodeValue) × TakesPacketLine line taken before served
     × PrintsTaken at_once taken served after old new
 TakesOrRefuses at_once line (Some fault) before after old new =
     RefusesLine line fault before.node after.node × KeepsGuard before after × (new ≡ old)
@@ -69,12 +69,12 @@ set_line count = codes "set " ++ decimal count ++ 10 ∷ []
 
 -- the journal of the bank was handed out, and then the bytes of the write are in its memory. The entries were printed,
 -- and how many bytes were set
-pub record TellsSetting (setting : Setting) (before after : LiveNodeValue) (old new : Option (List ℕ)) : Type 0 where
+pub record PrintsSetting (setting : Setting) (before after : LiveNodeValue) (old new : Option (List ℕ)) : Type 0 where
   pub journal : JournalValue
   pub between : Option (List ℕ)
-  pub set : SetsBytes setting.extended setting.address setting.bytes.items before.node after.node journal
+  pub set : SetsNodeBytes setting.extended setting.address setting.bytes.items before.node after.node journal
   pub guard : KeepsGuard before after
-  pub told : Appends old between (bank_text before.node.banks setting.extended)
+  pub reported : Appends old between (bank_text before.node.banks setting.extended)
   pub printed : Appends between new (set_line (length setting.bytes.items))
 
 -- the words write the setting, whose bytes are in its bank
@@ -97,7 +97,7 @@ IsUnset words node fault =
 -- the write of an instrument, or nothing for that fault
 abbrev pub SetsOrRefuses : (words : List (List ℕ)) (fault : Option BadLine) (before after : LiveNodeValue) (old new : Option (List ℕ)) → Type 0
 SetsOrRefuses words None before after old new =
-    (setting : Setting) × WritesInside words (alone before.node) setting × TellsSetting setting before after old new
+    (setting : Setting) × WritesInside words (alone before.node) setting × PrintsSetting setting before after old new
 SetsOrRefuses words (Some fault) before after old new =
     IsUnset words (alone before.node) fault × (after ≡ before) × (new ≡ old)
 
@@ -127,8 +127,8 @@ RefusesLong words asks (Some fault) before after old new = IsLongFault words ask
 -- what a line does that is not too long, by what it asks for; only a packet line may have a program scrubbed
 abbrev pub DoesAsked : (at_once : Bool) → Asks → (line : List ℕ) (fault : Option BadLine) (before after : LiveNodeValue) (old new : Option (List ℕ)) → Type 0
 DoesAsked at_once Packet line fault before after old new = MeetsRoom at_once line fault before after old new
-DoesAsked at_once Journal line fault before after old new = (fault ≡ None) × TellsJournal before after old new
-DoesAsked at_once Cells line fault before after old new = (fault ≡ None) × TellsCells before after old new
+DoesAsked at_once Journal line fault before after old new = (fault ≡ None) × PrintsJournal before after old new
+DoesAsked at_once Cells line fault before after old new = (fault ≡ None) × PrintsCells before after old new
 DoesAsked at_once Set line fault before after old new = SetsOrRefuses (words_of line) fault before after old new
 
 -- what a line does that may be too long, by what it asks for
@@ -143,15 +143,15 @@ fault_words number = codes "line " ++ decimal number ++ codes " fault "
 -- if a line has a fault, it was printed with the line's number
 abbrev pub IsFaultPrinted : (number : ℕ) → Option BadLine → (old new : Option (List ℕ)) → Type 0
 IsFaultPrinted number None old new = new ≡ old
-IsFaultPrinted number (Some fault) old new = Appends old new (fault_line (AtLine number fault))
+IsFaultPrinted number (Some fault) old new = Appends old new (job_fault_line (AtLine number fault))
 
 -- the node took a packet line or refuses it, and after a text is what came of it, or its fault
-pub record TakesAndTells (at_once : Bool) (line : List ℕ) (number : ℕ) (is_bad : Bool) (before after : LiveNodeValue) (old new : List ℕ) :
+pub record TakesAndPrints (at_once : Bool) (line : List ℕ) (number : ℕ) (is_bad : Bool) (before after : LiveNodeValue) (old new : List ℕ) :
     Type 0 where
   pub fault : Option BadLine
   pub between : List ℕ
   pub taken : TakesOrRefuses at_once line fault before after (Some old) (Some between)
-  pub told : IsFaultPrinted number fault (Some between) (Some new)
+  pub reported : IsFaultPrinted number fault (Some between) (Some new)
   pub bad : is_bad ≡ is_some fault
 
 -- the write of an instrument was done, and what is due for it was printed; or not, for a fault that was printed
@@ -160,7 +160,7 @@ pub record AnswersSetting (words : List (List ℕ)) (number : ℕ) (before after
   pub fault : Option BadLine
   pub between : Option (List ℕ)
   pub done : SetsOrRefuses words fault before after old between
-  pub told : IsFaultPrinted number fault between new
+  pub reported : IsFaultPrinted number fault between new
   pub bad : is_bad ≡ is_some fault
 
 -- the line of that number did what it asks for, and what is due for it was printed; it is bad if it has a fault
@@ -169,18 +169,18 @@ pub record AnswersAsked (at_once is_long : Bool) (asks : Asks) (line : List ℕ)
   pub fault : Option BadLine
   pub between : Option (List ℕ)
   pub done : DoesBy at_once is_long asks line fault before after old between
-  pub told : IsFaultPrinted number fault between new
+  pub reported : IsFaultPrinted number fault between new
   pub bad : is_bad ≡ is_some fault
 
 -- the same, by what its words ask for and by its length
-pub record Answers (at_once : Bool) (line : List ℕ) (number : ℕ) (before after : LiveNodeValue) (old new : Option (List ℕ)) (is_bad : Bool) :
+pub record AnswersTalkLine (at_once : Bool) (line : List ℕ) (number : ℕ) (before after : LiveNodeValue) (old new : Option (List ℕ)) (is_bad : Bool) :
     Type 0 where
   pub asks : Asks
-  pub asked : IsAsked (words_of line) asks
+  pub asked : IsAskedBy (words_of line) asks
   pub answered : AnswersAsked at_once (nat_lt MAX_LINE (length line)) asks line number before after old new is_bad
 
 -- if entries are handed out at once, and no journal has an entry before a line, none has one after it
 abbrev pub LeavesNone : Type 0
 LeavesNone =
     (line : List ℕ) (number : ℕ) (before after : LiveNodeValue) (old new : Option (List ℕ)) (is_bad : Bool)
-    → Answers true line number before after old new is_bad → AreEmpty before.node.banks → AreEmpty after.node.banks
+    → AnswersTalkLine true line number before after old new is_bad → AreEmptyJournals before.node.banks → AreEmptyJournals after.node.banks

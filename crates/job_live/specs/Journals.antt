@@ -5,9 +5,9 @@ use Rattle.std.specs.Io.KnownBytes.{Appends}
 use Rattle.std.specs.List.{flat_map, range_with_len}
 use Rattle.hex.specs.Hex.{encode_upper}
 use Rattle.bank.specs.Records.{BankValue}
-use Rattle.job_nodes.specs.JobNode.{HandsOut, first_of, is_full, journal_of}
+use Rattle.job_nodes.specs.JobNode.{HandsOut, first_address_of, is_full, journal_of}
 use Rattle.job_nodes.specs.LiveNodes.{KeepsGuard, LiveNodeValue}
-use Rattle.job_live.specs.Telling.{journal_text}
+use Rattle.job_live.specs.Reporting.{journal_text}
 
 -- the line before the entries of a bank: `bank HH BASE`, its extended address and that of its first byte
 abbrev pub bank_line : (number first : ℕ) → List ℕ
@@ -26,35 +26,35 @@ heading false number first = []
 -- the lines of the journal of the bank of that number
 abbrev pub bank_text : List BankValue → (number : ℕ) → List ℕ
 bank_text banks number =
-    heading (has_several banks) number (first_of (slice_get banks number))
+    heading (has_several banks) number (first_address_of (slice_get banks number))
     ++ journal_text (journal_of (slice_get banks number)).entries
 
 -- the journal of the bank of that number is handed out: each is, or those that are full
-abbrev pub is_due : (each : Bool) → List BankValue → (number : ℕ) → Bool
-is_due each banks number = each || is_full (slice_get banks number)
+abbrev pub is_journal_due : (each : Bool) → List BankValue → (number : ℕ) → Bool
+is_journal_due each banks number = each || is_full (slice_get banks number)
 
 -- the lines of the journal of the bank of that number, if it is handed out
 abbrev pub due_text : (each : Bool) → List BankValue → (number : ℕ) → List ℕ
-due_text each banks number = if is_due each banks number then bank_text banks number else []
+due_text each banks number = if is_journal_due each banks number then bank_text banks number else []
 
 -- the lines of the journals that are handed out
 abbrev pub journals_text : (each : Bool) → List BankValue → List ℕ
 journals_text each banks = flat_map (due_text each banks) (range_with_len 0 (length banks))
 
 -- the journal of the bank of that number was handed out, or not
-abbrev pub TurnsOne : (is_due : Bool) → (number : ℕ) → (before after : LiveNodeValue) → Type 0
+abbrev pub TurnsOne : (is_journal_due : Bool) → (number : ℕ) → (before after : LiveNodeValue) → Type 0
 TurnsOne true number before after =
     HandsOut number before.node after.node (journal_of (slice_get before.node.banks number)) × KeepsGuard before after
 TurnsOne false number before after = after ≡ before
 
 -- the journals of the first `count` banks were handed out in turn: each, or those that are full
-abbrev pub Turns : (each : Bool) → (count : ℕ) → (before after : LiveNodeValue) → Type 0
-Turns each zero before after = after ≡ before
-Turns each (suc count) before after =
-    (between : LiveNodeValue) × Turns each count before between
-    × TurnsOne (is_due each between.node.banks count) count between after
+abbrev pub TurnsJournals : (each : Bool) → (count : ℕ) → (before after : LiveNodeValue) → Type 0
+TurnsJournals each zero before after = after ≡ before
+TurnsJournals each (suc count) before after =
+    (between : LiveNodeValue) × TurnsJournals each count before between
+    × TurnsOne (is_journal_due each between.node.banks count) count between after
 
 -- the journals of all banks were handed out, each or those that are full, and their lines were printed
-pub record TellsJournals (each : Bool) (before after : LiveNodeValue) (old new : Option (List ℕ)) : Type 0 where
-  pub turned : Turns each (length before.node.banks) before after
+pub record PrintsJournals (each : Bool) (before after : LiveNodeValue) (old new : Option (List ℕ)) : Type 0 where
+  pub turned : TurnsJournals each (length before.node.banks) before after
   pub printed : Appends old new (journals_text each before.node.banks)

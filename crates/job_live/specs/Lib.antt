@@ -8,5 +8,5 @@ pub mod LiveJob
 pub mod ScrubLines
 pub mod Settings
 pub mod Talking
-pub mod Telling
+pub mod Reporting
 pub mod Words

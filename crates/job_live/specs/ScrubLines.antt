@@ -1,6 +1,6 @@
 -- The line of a scrub.
 use Rattle.std.specs.Prelude.{ℕ, List, [], ◌∷◌, ◌++◌, codes, decimal, Option, None, Some}
-use Rattle.scrub.specs.declared.guard.Found.{Found}
+use Rattle.scrub.specs.declared.guard.ScrubFindings.{ScrubFindings}
 use Rattle.scrub.specs.declared.guard.Health.{Health}
 use Rattle.scrub.specs.declared.guard.Health.TheVariants.{Whole, Mended, Unmended, Withdrawn}
 
@@ -16,6 +16,6 @@ health_text slot Withdrawn = scrub_line slot (codes "withdrawn")
 health_text slot Unmended = scrub_line slot (codes "withdrawn")
 
 -- the same of what a scrub found, if one was due
-abbrev pub found_text : Option Found → List ℕ
+abbrev pub found_text : Option ScrubFindings → List ℕ
 found_text None = []
 found_text (Some found) = health_text found.slot found.health

@@ -8,8 +8,8 @@ use Rattle.job_parts.specs.declared.bad_lines.BadLine.TheVariants.{Line, NoPort 
 use Rattle.job_live.specs.declared.settings.Setting.{Setting}
 
 -- two hexadecimal digits write this byte
-abbrev pub WritesByte : List ℕ → ℕ → Type 0
-WritesByte word byte = (bytes : List ℕ) × (decode_sized word 1 ≡ Ok bytes) × (byte ≡ slice_index bytes 0)
+abbrev pub WritesByteDigits : List ℕ → ℕ → Type 0
+WritesByteDigits word byte = (bytes : List ℕ) × (decode_sized word 1 ≡ Ok bytes) × (byte ≡ slice_index bytes 0)
 
 -- eight hexadecimal digits write this address, the most significant first
 abbrev pub WritesAddress : List ℕ → ℕ → Type 0
@@ -17,8 +17,8 @@ WritesAddress word address =
     (bytes : List ℕ) × (decode_sized word 4 ≡ Ok bytes) × (address ≡ from_be_bytes w32 bytes)
 
 -- pairs of hexadecimal digits write these bytes
-abbrev pub WritesBytes : List ℕ → List ℕ → Type 0
-WritesBytes word bytes = decode_of word ≡ Ok bytes
+abbrev pub WritesByteList : List ℕ → List ℕ → Type 0
+WritesByteList word bytes = decode_of word ≡ Ok bytes
 
 -- the fault of a word that is not the digits of such a value
 abbrev pub IsNotHex : (written : Type 0) → BadLine → Type 0
@@ -26,7 +26,7 @@ IsNotHex written fault = (fault ≡ Line BadHex) × ¬ written
 
 -- the fault of a word that writes no byte
 abbrev pub IsNoByte : List ℕ → BadLine → Type 0
-IsNoByte word fault = IsNotHex ((byte : ℕ) × WritesByte word byte) fault
+IsNoByte word fault = IsNotHex ((byte : ℕ) × WritesByteDigits word byte) fault
 
 -- the fault of a word that writes no address
 abbrev pub IsNoAddress : List ℕ → BadLine → Type 0
@@ -34,7 +34,7 @@ IsNoAddress word fault = IsNotHex ((address : ℕ) × WritesAddress word address
 
 -- the fault of a word that writes no bytes; or memory was refused
 abbrev pub AreNoBytes : List ℕ → BadLine → Type 0
-AreNoBytes word fault = (fault ≡ Line Memory) ⊎ IsNotHex ((bytes : List ℕ) × WritesBytes word bytes) fault
+AreNoBytes word fault = (fault ≡ Line Memory) ⊎ IsNotHex ((bytes : List ℕ) × WritesByteList word bytes) fault
 
 -- the words are `set` and three others
 pub record AreSetWords (words : List (List ℕ)) (extended address bytes : List ℕ) : Type 0 where
@@ -46,9 +46,9 @@ pub record WritesSetting (words : List (List ℕ)) (setting : Setting) : Type 0 
   pub address : List ℕ
   pub bytes : List ℕ
   pub words_are : AreSetWords words extended address bytes
-  pub extended_written : WritesByte extended setting.extended
+  pub extended_written : WritesByteDigits extended setting.extended
   pub address_written : WritesAddress address setting.address
-  pub bytes_written : WritesBytes bytes setting.bytes.items
+  pub bytes_written : WritesByteList bytes setting.bytes.items
 
 -- there are three words after `set`, and they write no such thing
 pub record AreNoSetting (words : List (List ℕ)) : Type 0 where

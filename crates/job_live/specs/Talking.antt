@@ -2,8 +2,8 @@
 use Rattle.std.specs.Prelude.{ℕ, List, Bool, true, false, Option, Some, None}
 
 -- between two states of a talk: the line that came, without its line feed, or none if no more come
-abbrev pub Comes : Type 0 → Type 1
-Comes T = T → Option (List ℕ) → T → Type 0
+abbrev pub ComesLine : Type 0 → Type 1
+ComesLine T = T → Option (List ℕ) → T → Type 0
 
 -- between two states of a talk: the bytes that left it, of which none is held back
 abbrev pub Sends : Type 0 → Type 1

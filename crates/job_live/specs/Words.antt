@@ -6,7 +6,7 @@ use Rattle.clap.specs.Simple.{App, new_app, with_rule}
 use Rattle.job_config.specs.Sources.{GivesSource, SpoilsSource, with_source_options}
 use Rattle.job_config.specs.declared.sources.NodeSource.{NodeSource}
 use Rattle.job_config.specs.declared.sources.NodeSource.TheVariants.{File, Words}
-use Rattle.job_parts.specs.Arguments.{flag_rule, is_set, option_rule}
+use Rattle.job_parts.specs.Arguments.{flag_rule, is_flag_set, option_rule}
 use Rattle.job_parts.specs.Options.{IsNumberWithin}
 use Rattle.job_parts.specs.declared.usage.UsageFault.{UsageFault}
 use Rattle.job_parts.specs.declared.usage.UsageFault.TheVariants.{Parse, BadOption, Memory}
@@ -49,13 +49,13 @@ serves_frames (Words words) = words.ports == 1
 pub record NamesLive (rows : List Row) (words : LiveWords) : Type 0 where
   pub node : GivesSource rows words.node
   pub scrub : GivesScrub (first_of (codes "scrub") rows) words.scrub
-  pub entries : words.entries ≡ is_set (codes "entries") rows
-  pub frames : words.frames ≡ is_set (codes "frames") rows
+  pub entries : words.entries ≡ is_flag_set (codes "entries") rows
+  pub frames : words.frames ≡ is_flag_set (codes "frames") rows
   pub link : words.frames ≡ true → serves_frames words.node ≡ true
 
 -- matches that want frames, and name a node of another number of ports than one
 pub record WantsOtherPorts (rows : List Row) : Type 0 where
-  pub frames : is_set (codes "frames") rows ≡ true
+  pub frames : is_flag_set (codes "frames") rows ≡ true
   pub source : NodeSource
   pub given : GivesSource rows source
   pub others : serves_frames source ≡ false

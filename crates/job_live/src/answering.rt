@@ -2,23 +2,23 @@
 
 ghost use Rattle.std.specs.Prelude.{◌≡◌, ◌≤◌, ◌+◌, ◌++◌, [], ℕ, IfErr, IfOk, OnErr, OnOk, Some, false, length, map, true};
 ghost use Rattle.std.specs.Vec.{vec_capacity, vec_len};
-ghost use Rattle.job_parts.specs.Printed.{Prints, fault_line};
+ghost use Rattle.job_parts.specs.Printed.{Prints, job_fault_line};
 ghost use Rattle.job_parts.specs.declared.faults.Fault.TheVariants.{BadLine as AtLine};
-ghost use Rattle.job_live.specs.Answering.{Answers, AnswersAsked, AnswersSetting, IsFaultByPort, IsLongFault, IsUnset, LeavesNone, MakesRoom, TakesAndTells, TellsJournal, TellsSetting, WritesInside, fault_words, is_inside};
-ghost use Rattle.job_live.specs.Asks.{IsAsked};
-ghost use Rattle.job_live.specs.Entries.{room_of, taken_text};
+ghost use Rattle.job_live.specs.Answering.{AnswersTalkLine, AnswersAsked, AnswersSetting, IsFaultByPort, IsLongFault, IsUnset, LeavesNone, MakesRoom, TakesAndPrints, PrintsJournal, PrintsSetting, WritesInside, fault_words, is_inside};
+ghost use Rattle.job_live.specs.Asks.{IsAskedBy};
+ghost use Rattle.job_live.specs.Entries.{text_room_of, taken_text};
 ghost use Rattle.job_nodes.specs.JobNode.{alone};
 ghost use Rattle.rmap.specs.declared.reply.TheConstants.{MAX_REPLY};
 ghost use Rattle.job_live.specs.declared.asks.Asks.TheVariants.{Packet, Set};
 
 use crate::asks::{Asks, asked};
 use crate::cell_lines::print_cells;
-use crate::entries::{put_left, room_of, turn_left};
+use crate::entries::{put_left, text_room_of, turn_left};
 use crate::journals::{print_bank, print_journals, turn_journals};
 use crate::putting::{MOST_OF_PACKET, put, put_code, put_served};
 use crate::scrub_lines::{MOST_OF_SCRUB, put_found};
 use crate::settings::{Setting, read_setting};
-use job_nodes::live_node::{LiveNode, Taken};
+use job_nodes::live_node::{LiveNode, LineResult};
 use job_parts::bad_lines::BadLine;
 use job_parts::faults::Fault;
 use rmap::MAX_REPLY;
@@ -42,8 +42,8 @@ const MOST_OF_LINES: usize = MOST_OF_SCRUB + MOST_OF_PACKET;
 ///
 /// The error of `out`, if it does not take all of the text. The node is then as before.
 pub fn hand_out<W: Write>(node: &mut LiveNode, out: &mut W) -> io::Result<()>
-    ensures tells { OnOk result
-        (TellsJournal node.old node.new (W.contents out.old) (W.contents out.new)) }
+    ensures reports { OnOk result
+        (PrintsJournal node.old node.new (W.contents out.old) (W.contents out.new)) }
     ensures kept { OnErr result (node.new ≡ node.old) }
 {
     print_journals(out, node.single(), true)?;
@@ -82,13 +82,13 @@ fn fault_words(alloc: Global, number: usize) -> io::Result<Vec<u8>>
 /// find a program whole. Then come those of the entries that are handed out at once, and that of the packet. The
 /// condition is room for the longest lines.
 #[tactic(auto, using(crate::proofs::Taken::text_taken))]
-fn put_taken(text: &mut Vec<u8>, taken: Taken, node: &LiveNode, at_once: bool)
-    requires { vec_len text.old + (MOST_OF_SCRUB + MOST_OF_PACKET + room_of at_once) ≤ vec_capacity text.old }
+fn put_taken(text: &mut Vec<u8>, taken: LineResult, node: &LiveNode, at_once: bool)
+    requires { vec_len text.old + (MOST_OF_SCRUB + MOST_OF_PACKET + text_room_of at_once) ≤ vec_capacity text.old }
     ensures { text.new.items ≡ text.old.items ++ taken_text at_once taken node.now.node }
 {
     put_found(text, taken.answer.found);
     put_left(text, node.single(), at_once);
-    put_served(text, taken.port, taken.answer.told.served, node.reply());
+    put_served(text, taken.port, taken.answer.reported.served, node.reply());
 }
 
 /// Puts the line of a fault after a text. Its words before the number are these. The condition is room for them and two
@@ -97,7 +97,7 @@ fn put_taken(text: &mut Vec<u8>, taken: Taken, node: &LiveNode, at_once: bool)
 fn put_fault(text: &mut Vec<u8>, words: &[u8], fault: BadLine)
     requires { vec_len text.old + (length words.now + CODE) ≤ vec_capacity text.old }
     ensures { (number : ℕ) → words.now ≡ fault_words number
-        → text.new.items ≡ text.old.items ++ fault_line (AtLine number fault) }
+        → text.new.items ≡ text.old.items ++ job_fault_line (AtLine number fault) }
 {
     put(text, words);
     put_code(text, fault.number());
@@ -115,11 +115,11 @@ fn take_line(
     words: &[u8],
     text: &mut Vec<u8>,
 ) -> bool
-    requires told { vec_len text.old + (MOST_OF_SCRUB + MOST_OF_PACKET + room_of at_once)
+    requires reported { vec_len text.old + (MOST_OF_SCRUB + MOST_OF_PACKET + text_room_of at_once)
         ≤ vec_capacity text.old }
     requires fault { vec_len text.old + (length words.now + CODE) ≤ vec_capacity text.old }
     ensures { (number : ℕ) → words.now ≡ fault_words number
-        → TakesAndTells at_once line.now number result node.old node.new text.old.items text.new.items }
+        → TakesAndPrints at_once line.now number result node.old node.new text.old.items text.new.items }
 {
     match node.take_line(alloc, line) {
         Ok(Some(taken)) => {
@@ -151,7 +151,7 @@ fn answer_packet(
     ensures kept { OnErr result (node.new ≡ node.old) }
 {
     let words = fault_words(alloc, number)?;
-    let more = words.len() + MOST_OF_LINES + room_of(at_once);
+    let more = words.len() + MOST_OF_LINES + text_room_of(at_once);
     make_room(node, more, text)?;
     Ok(take_line(alloc, node, at_once, line, words.as_slice(), text))
 }
@@ -166,7 +166,7 @@ fn is_inside(node: &SingleNode, setting: &Setting) -> bool
 
 /// The write that these words ask for, with its bytes in its bank. Or why there is none.
 fn setting_inside(alloc: Global, node: &SingleNode, words: &[&str]) -> Result<Setting, BadLine>
-    requires { IsAsked (map (λ word. word.now) words.now) Set }
+    requires { IsAskedBy (map (λ word. word.now) words.now) Set }
     ensures ok { IfOk result
         (λ setting. WritesInside (map (λ word. word.now) words.now) node.now setting) }
     ensures err { IfErr result (IsUnset (map (λ word. word.now) words.now) node.now) }
@@ -184,7 +184,7 @@ fn setting_inside(alloc: Global, node: &SingleNode, words: &[&str]) -> Result<Se
 #[tactic(auto, unfolding(crate::specs::Answering::is_inside))]
 fn set_bytes<W: Write>(node: &mut LiveNode, setting: &Setting, out: &mut W) -> io::Result<()>
     requires { is_inside (alone node.old.node) setting.now ≡ true }
-    ensures tells { OnOk result (TellsSetting setting.now node.old node.new
+    ensures reports { OnOk result (PrintsSetting setting.now node.old node.new
         (W.contents out.old) (W.contents out.new)) }
     ensures kept { OnErr result (node.new ≡ node.old) }
 {
@@ -199,7 +199,7 @@ fn set_bytes<W: Write>(node: &mut LiveNode, setting: &Setting, out: &mut W) -> i
 /// Prints the fault of a line.
 fn print_fault<W: Write>(out: &mut W, number: usize, fault: BadLine) -> io::Result<()>
     ensures { OnOk result
-        (Prints W.contents out.old out.new (fault_line (AtLine number fault))) }
+        (Prints W.contents out.old out.new (job_fault_line (AtLine number fault))) }
 {
     let fault = Fault::BadLine { number, fault };
     writeln!(out, "{fault}")
@@ -214,7 +214,7 @@ fn answer_setting<W: Write>(
     number: usize,
     out: &mut W,
 ) -> io::Result<bool>
-    requires { IsAsked (map (λ word. word.now) words.now) Set }
+    requires { IsAskedBy (map (λ word. word.now) words.now) Set }
     ensures answers { IfOk result (AnswersSetting (map (λ word. word.now) words.now) number
         node.old node.new (W.contents out.old) (W.contents out.new)) }
     ensures kept { OnErr result (node.new ≡ node.old) }
@@ -275,7 +275,7 @@ pub fn answer(
     number: usize,
     text: &mut Vec<u8>,
 ) -> io::Result<bool>
-    ensures answers { IfOk result (Answers at_once line.now number node.old node.new
+    ensures answers { IfOk result (AnswersTalkLine at_once line.now number node.old node.new
         (Some text.old.items) (Some text.new.items)) }
     ensures kept { OnErr result (node.new ≡ node.old) }
 {
@@ -305,7 +305,7 @@ pub fn answer(
 ///
 /// An error if memory is refused. The node is then as before.
 pub fn last_text(alloc: Global, node: &mut LiveNode) -> io::Result<Vec<u8>>
-    ensures tells { IfOk result (λ text. TellsJournal node.old node.new (Some []) (Some text.items)) }
+    ensures reports { IfOk result (λ text. PrintsJournal node.old node.new (Some []) (Some text.items)) }
     ensures kept { OnErr result (node.new ≡ node.old) }
 {
     let mut text = Vec::new(alloc);

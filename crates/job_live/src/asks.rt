@@ -1,7 +1,7 @@
 //! What a line of a talk asks for.
 
 ghost use Rattle.std.specs.Prelude.{◌∷◌, map};
-ghost use Rattle.job_live.specs.Asks.{IsAsked};
+ghost use Rattle.job_live.specs.Asks.{IsAskedBy};
 
 /// What a line of a talk asks for, by its words.
 #[derive(Clone, Copy, Debug, PartialEq, Eq)]
@@ -18,7 +18,7 @@ pub enum Asks {
 
 /// What a line of this first word asks for, with the others after it.
 fn asked_by(first: &str, others: &[&str]) -> Asks
-    ensures { IsAsked (first.now ∷ map (λ word. word.now) others.now) result }
+    ensures { IsAskedBy (first.now ∷ map (λ word. word.now) others.now) result }
 {
     match first {
         "journal" if others.is_empty() => Asks::Journal,
@@ -30,7 +30,7 @@ fn asked_by(first: &str, others: &[&str]) -> Asks
 
 /// What a line of these words asks for.
 pub fn asked(words: &[&str]) -> Asks
-    ensures { IsAsked (map (λ word. word.now) words.now) result }
+    ensures { IsAskedBy (map (λ word. word.now) words.now) result }
 {
     let [first, others @ ..] = words else {
         return Asks::Packet;

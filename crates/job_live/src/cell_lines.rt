@@ -5,7 +5,7 @@ ghost use Rattle.job_live.specs.CellLines.{cells_text, map_line, words_text};
 ghost use Rattle.job_parts.specs.Printed.{Prints};
 ghost use Rattle.machine.specs.Sizes.{IsInside};
 ghost use Rattle.node_programs.specs.Published.{sizes_of};
-ghost use Rattle.plain_cells.specs.Words.{word_at};
+ghost use Rattle.plain_cells.specs.Words.{key_word_at};
 
 use machine::MapSizes;
 use single_node::SingleNode;
@@ -14,7 +14,7 @@ use std::io::{self, Write};
 /// The word of a cell. The condition is a cell that is there.
 fn word_at(node: &SingleNode, map: u8, key: u16) -> u64
     requires { IsInside (sizes_of node.now.programs) map key }
-    ensures { result ≡ word_at node.now.words map key }
+    ensures { result ≡ key_word_at node.now.words map key }
 {
     node.word(map, key).unwrap()
 }

@@ -1,9 +1,9 @@
 //! The entries that are handed out at once.
 
 ghost use Rattle.bank.specs.Records.{is_whole};
-ghost use Rattle.job_live.specs.Entries.{HandsOutLeft, TurnsLeft, damaged_left, entries_text, has_one, left_line, left_text, left_words, number_word, room_of};
+ghost use Rattle.job_live.specs.Entries.{HandsOutLeft, TurnsLeft, damaged_left, entries_text, has_one, left_line, left_text, left_words, spaced_number, text_room_of};
 ghost use Rattle.job_live.specs.Journals.{TurnsOne};
-ghost use Rattle.job_live.specs.Telling.{packet_line};
+ghost use Rattle.job_live.specs.Reporting.{portless_packet_line};
 ghost use Rattle.std.specs.List.{flat_map, range_with_len};
 ghost use Rattle.std.specs.Prelude.{◌≡◌, ◌≤◌, ◌<◌, ◌+◌, ◌*◌, ◌++◌, length, slice_get};
 ghost use Rattle.std.specs.Vec.{vec_capacity, vec_len};
@@ -32,7 +32,7 @@ pub const MOST_OF_ENTRIES: usize = 8 * MOST_OF_ENTRY;
 /// Puts a number after a text, and a space. The condition is room for both.
 fn put_number(text: &mut Vec<u8>, number: u64)
     requires { vec_len text.old + MOST_OF_NUMBER ≤ vec_capacity text.old }
-    ensures items { text.new.items ≡ text.old.items ++ number_word number }
+    ensures items { text.new.items ≡ text.old.items ++ spaced_number number }
     ensures len { vec_len text.new ≤ vec_len text.old + MOST_OF_NUMBER }
     ensures room { vec_capacity text.old ≤ vec_capacity text.new }
 {
@@ -63,7 +63,7 @@ fn put_words(text: &mut Vec<u8>, bank: u8, entry: &Entry)
 /// Puts the words of a packet after a text, and ends the line. The condition is room for the longest.
 fn put_packet(text: &mut Vec<u8>, packet: &Packet)
     requires { vec_len text.old + (2 * MAX_PACKET + 5) ≤ vec_capacity text.old }
-    ensures items { text.new.items ≡ text.old.items ++ packet_line packet.now }
+    ensures items { text.new.items ≡ text.old.items ++ portless_packet_line packet.now }
     ensures len { vec_len text.new ≤ vec_len text.old + (2 * MAX_PACKET + 5) }
     ensures room { vec_capacity text.old ≤ vec_capacity text.new }
 {
@@ -152,8 +152,8 @@ fn put_each(text: &mut Vec<u8>, node: &SingleNode)
 }
 
 /// How many bytes the lines of the entries have at most, that are handed out at once.
-pub fn room_of(at_once: bool) -> usize
-    ensures value { result ≡ room_of at_once }
+pub fn text_room_of(at_once: bool) -> usize
+    ensures value { result ≡ text_room_of at_once }
     ensures few { result ≤ MOST_OF_ENTRIES }
 {
     if at_once { MOST_OF_ENTRIES } else { 0 }
@@ -165,9 +165,9 @@ pub fn room_of(at_once: bool) -> usize
 /// room for the longest lines.
 #[tactic(auto, using(crate::proofs::PutText::none_more))]
 pub fn put_left(text: &mut Vec<u8>, node: &SingleNode, at_once: bool)
-    requires { vec_len text.old + room_of at_once ≤ vec_capacity text.old }
+    requires { vec_len text.old + text_room_of at_once ≤ vec_capacity text.old }
     ensures items { text.new.items ≡ text.old.items ++ entries_text at_once node.now.banks }
-    ensures len { vec_len text.new ≤ vec_len text.old + room_of at_once }
+    ensures len { vec_len text.new ≤ vec_len text.old + text_room_of at_once }
     ensures room { vec_capacity text.old ≤ vec_capacity text.new }
 {
     if at_once {

@@ -118,7 +118,7 @@ impl<I: BufRead + Drop, W: Write + Drop> Talk for HostTalk<I, W> {
     ghost use Rattle.std.specs.Io.KnownBytes.{Appends};
     ghost use Rattle.job_live.specs.HostLines.{LosesLine, ReadsLine};
 
-    ghost came = { λ before line after.
+    ghost received = { λ before line after.
         ReadsLine (I.remaining before.input) line (I.remaining after.input) };
 
     ghost sent = { λ before text after.

@@ -1,11 +1,11 @@
 //! The journals of a node's banks.
 
 ghost use Rattle.std.specs.Prelude.{◌≡◌, ◌<◌, OnOk, length, slice_get};
-ghost use Rattle.job_nodes.specs.JobNode.{first_of};
+ghost use Rattle.job_nodes.specs.JobNode.{first_address_of};
 ghost use Rattle.job_parts.specs.Printed.{Prints};
-ghost use Rattle.job_live.specs.Journals.{Turns, TurnsOne, bank_line, bank_text, due_text, has_several, heading, is_due, journals_text};
+ghost use Rattle.job_live.specs.Journals.{TurnsJournals, TurnsOne, bank_line, bank_text, due_text, has_several, heading, is_journal_due, journals_text};
 
-use crate::telling::print_journal;
+use crate::reporting::print_journal;
 use job_nodes::journals::{entries, first, is_full};
 use job_nodes::live_node::LiveNode;
 use job_parts::replies::print_hex;
@@ -28,7 +28,7 @@ fn print_bank_line<W: Write>(out: &mut W, bank: u8, first: u32) -> io::Result<()
 fn print_heading<W: Write>(out: &mut W, node: &SingleNode, bank: u8) -> io::Result<()>
     requires { bank < length node.now.banks }
     ensures { OnOk result (Prints W.contents out.old out.new
-        (heading (has_several node.now.banks) bank (first_of (slice_get node.now.banks bank)))) }
+        (heading (has_several node.now.banks) bank (first_address_of (slice_get node.now.banks bank)))) }
 {
     if node.banks() <= 1 {
         return Ok(());
@@ -51,9 +51,9 @@ pub fn print_bank<W: Write>(out: &mut W, node: &SingleNode, bank: u8) -> io::Res
 }
 
 /// Whether the journal of a bank is handed out: if each is, or if it is full. The condition is a bank of the node.
-fn is_due(node: &SingleNode, each: bool, bank: u8) -> bool
+fn is_journal_due(node: &SingleNode, each: bool, bank: u8) -> bool
     requires { bank < length node.now.banks }
-    ensures { result ≡ is_due each node.now.banks bank }
+    ensures { result ≡ is_journal_due each node.now.banks bank }
 {
     each || is_full(node, bank)
 }
@@ -63,7 +63,7 @@ fn print_due<W: Write>(out: &mut W, node: &SingleNode, each: bool, bank: u8) -> 
     requires { bank < length node.now.banks }
     ensures { OnOk result (Prints W.contents out.old out.new (due_text each node.now.banks bank)) }
 {
-    if !is_due(node, each, bank) {
+    if !is_journal_due(node, each, bank) {
         return Ok(());
     }
     print_bank(out, node, bank)
@@ -87,17 +87,17 @@ pub fn print_journals<W: Write>(out: &mut W, node: &SingleNode, each: bool) -> i
 /// node.
 fn turn_due(node: &mut LiveNode, each: bool, bank: u8)
     requires { bank < length node.old.node.banks }
-    ensures turns { TurnsOne (is_due each node.old.node.banks bank) bank node.old node.new }
+    ensures turns { TurnsOne (is_journal_due each node.old.node.banks bank) bank node.old node.new }
     ensures banks { length node.new.node.banks ≡ length node.old.node.banks }
 {
-    if is_due(node.single(), each, bank) {
+    if is_journal_due(node.single(), each, bank) {
         node.turn(bank);
     }
 }
 
 /// Begins an empty journal in the place of each, or of those that are full.
 pub fn turn_journals(node: &mut LiveNode, each: bool)
-    ensures { Turns each (length node.old.node.banks) node.old node.new }
+    ensures { TurnsJournals each (length node.old.node.banks) node.old node.new }
 {
     let banks = node.single().banks();
     for bank in 0..banks {

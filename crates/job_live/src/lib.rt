@@ -12,5 +12,5 @@ pub mod putting;
 pub mod scrub_lines;
 pub mod settings;
 pub mod talk;
-pub mod telling;
+pub mod reporting;
 pub mod words;

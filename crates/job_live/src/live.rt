@@ -1,8 +1,8 @@
 //! The job `live`.
 
 ghost use Rattle.std.specs.Prelude.{◌≡◌, ◌||◌, IfErr, IfOk, OnOk, if◌then◌else◌};
-ghost use Rattle.job_parts.specs.declared.status.Status.TheVariants.{Done, Failed};
-ghost use Rattle.job_live.specs.LiveJob.{EndsTalk, Exchanges, HoldsTalk, IsBrokenOff, IsCutOff, IsEndUnsent, IsUnanswered, IsUnsent, IsWholeTalk, Lives, SendsEnd, StopsTalk, TellsLast};
+ghost use Rattle.job_parts.specs.declared.status.ExitStatus.TheVariants.{Done, Failed};
+ghost use Rattle.job_live.specs.LiveJob.{EndsTalk, ExchangesLine, HoldsTalk, IsBrokenOff, IsTalkCutOff, IsEndUnsent, IsUnanswered, IsUnsent, IsWholeTalk, Lives, SendsEnd, StopsTalk, SendsLast};
 
 use crate::answering::{answer, last_text};
 use crate::talk::Talk;
@@ -10,8 +10,8 @@ use crate::words::LiveWords;
 use job_nodes::live_node::LiveNode;
 use job_nodes::sources::{node_from, place_of};
 use job_parts::faults::Fault;
-use job_parts::status::Status;
-use job_parts::stops::{Halt, WriteFault};
+use job_parts::status::ExitStatus;
+use job_parts::stops::{JobStop, WriteFault};
 use job_parts::storage::Files;
 use std::alloc::Global;
 use std::io::Write;
@@ -29,29 +29,29 @@ fn exchange<'a, T: Talk>(
     at_once: bool,
     talk: &mut T,
     number: usize,
-) -> Result<Option<bool>, Halt<'a>>
-    ensures exchanged { IfOk result (λ went. Exchanges T.came T.sent at_once number went
+) -> Result<Option<bool>, JobStop<'a>>
+    ensures exchanged { IfOk result (λ went. ExchangesLine T.received T.sent at_once number went
         node.old node.new talk.old talk.new) }
-    ensures stops { IfErr result (IsUnanswered T.came T.sent T.unsent T.missed at_once number
+    ensures stops { IfErr result (IsUnanswered T.received T.sent T.unsent T.missed at_once number
         node.old node.new talk.old talk.new) }
 {
     let mut line = String::new(alloc);
     let Ok(is_given) = talk.next(&mut line) else {
-        return Err(Halt::Ended(Fault::CannotRead(STANDARD_INPUT)));
+        return Err(JobStop::Ended(Fault::CannotRead(STANDARD_INPUT)));
     };
     if !is_given {
         return Ok(None);
     }
     if node.is_damaged() {
-        return Err(Halt::Ended(Fault::Damaged));
+        return Err(JobStop::Ended(Fault::Damaged));
     }
     let mut text = Vec::new(alloc);
     let Ok(is_bad) = answer(alloc, node, at_once, line.as_str(), number, &mut text) else {
-        return Err(Halt::Ended(Fault::NoMemory));
+        return Err(JobStop::Ended(Fault::NoMemory));
     };
     match talk.send(text.as_slice()) {
         Ok(()) => Ok(Some(is_bad)),
-        Err(_) => Err(Halt::Unwritten(WriteFault)),
+        Err(_) => Err(JobStop::Unwritten(WriteFault)),
     }
 }
 
@@ -68,9 +68,9 @@ fn hold<'a, T: Talk>(
     node: &mut LiveNode,
     at_once: bool,
     talk: &mut T,
-) -> Result<bool, Halt<'a>>
-    ensures held { IfOk result (IsWholeTalk T.came T.sent at_once node.old node.new talk.old talk.new) }
-    ensures stops { IfErr result (IsBrokenOff T.came T.sent T.unsent T.missed at_once
+) -> Result<bool, JobStop<'a>>
+    ensures held { IfOk result (IsWholeTalk T.received T.sent at_once node.old node.new talk.old talk.new) }
+    ensures stops { IfErr result (IsBrokenOff T.received T.sent T.unsent T.missed at_once
         node.old node.new talk.old talk.new) }
 {
     let mut some_bad = false;
@@ -84,13 +84,13 @@ fn hold<'a, T: Talk>(
 }
 
 /// Sends the last text of a talk after its last line: the entries of the journals, which are handed out.
-fn send_end<'a, T: Talk>(alloc: Global, node: &mut LiveNode, talk: &mut T) -> Result<(), Halt<'a>>
+fn send_end<'a, T: Talk>(alloc: Global, node: &mut LiveNode, talk: &mut T) -> Result<(), JobStop<'a>>
     ensures sent { OnOk result (SendsEnd T.sent node.old node.new talk.old talk.new) }
     ensures stops { IfErr result (IsEndUnsent T.unsent node.old node.new talk.old talk.new) }
 {
-    let text = last_text(alloc, node).map_err(|_| Halt::Ended(Fault::NoMemory))?;
+    let text = last_text(alloc, node).map_err(|_| JobStop::Ended(Fault::NoMemory))?;
     let sent = talk.send(text.as_slice());
-    sent.map_err(|_| Halt::Unwritten(WriteFault))
+    sent.map_err(|_| JobStop::Unwritten(WriteFault))
 }
 
 /// Holds a talk to its end, and sends the entries of the journal. Returns whether one of its lines was bad.
@@ -99,9 +99,9 @@ fn hold_to_end<'a, T: Talk>(
     node: &mut LiveNode,
     at_once: bool,
     talk: &mut T,
-) -> Result<bool, Halt<'a>>
-    ensures held { IfOk result (EndsTalk T.came T.sent at_once node.old node.new talk.old talk.new) }
-    ensures stops { IfErr result (StopsTalk T.came T.sent T.unsent T.missed at_once
+) -> Result<bool, JobStop<'a>>
+    ensures held { IfOk result (EndsTalk T.received T.sent at_once node.old node.new talk.old talk.new) }
+    ensures stops { IfErr result (StopsTalk T.received T.sent T.unsent T.missed at_once
         node.old node.new talk.old talk.new) }
 {
     let some_bad = hold(alloc, node, at_once, talk)?;
@@ -115,10 +115,10 @@ fn live_on<'a, F: Files, T: Talk>(
     words: &'a LiveWords,
     files: &mut F,
     talk: &mut T,
-) -> Result<bool, Halt<'a>>
-    ensures held { IfOk result (HoldsTalk F.reads T.came T.sent T.unsent T.missed words.now
+) -> Result<bool, JobStop<'a>>
+    ensures held { IfOk result (HoldsTalk F.reads T.received T.sent T.unsent T.missed words.now
         files.old files.new talk.old talk.new) }
-    ensures stops { IfErr result (IsCutOff F.reads T.came T.sent T.unsent T.missed words.now
+    ensures stops { IfErr result (IsTalkCutOff F.reads T.received T.sent T.unsent T.missed words.now
         files.old files.new talk.old talk.new) }
 {
     let plain = node_from(alloc, &words.node, files)?;
@@ -128,26 +128,26 @@ fn live_on<'a, F: Files, T: Talk>(
 
 /// Sends the line of the fault that cut a talk off. If memory is refused to that line, it sends that there is no
 /// memory.
-fn tell<T: Talk>(alloc: Global, fault: &Fault<'_>, talk: &mut T) -> Result<(), WriteFault>
-    ensures told { OnOk result (TellsLast T.sent fault.now talk.old talk.new) }
-    ensures lost { IfErr result (λ _. TellsLast T.unsent fault.now talk.old talk.new) }
+fn send_fault<T: Talk>(alloc: Global, fault: &Fault<'_>, talk: &mut T) -> Result<(), WriteFault>
+    ensures reported { OnOk result (SendsLast T.sent fault.now talk.old talk.new) }
+    ensures lost { IfErr result (λ _. SendsLast T.unsent fault.now talk.old talk.new) }
 {
     let mut text = Vec::new(alloc);
-    let told = match writeln!(text, "{fault}") {
+    let reported = match writeln!(text, "{fault}") {
         Ok(()) => talk.send(text.as_slice()),
         Err(_) => talk.send(NO_MEMORY),
     };
-    told.map_err(|_| WriteFault)
+    reported.map_err(|_| WriteFault)
 }
 
 /// The exit status of a whole talk.
-fn status_of(some_bad: bool) -> Status
+fn status_of(some_bad: bool) -> ExitStatus
     ensures { result ≡ (if some_bad then Failed else Done) }
 {
     if some_bad {
-        Status::Failed
+        ExitStatus::Failed
     } else {
-        Status::Done
+        ExitStatus::Done
     }
 }
 
@@ -170,19 +170,19 @@ pub fn live<F: Files, T: Talk>(
     files: &mut F,
     talk: &mut T,
     place: &mut Option<String>,
-) -> Result<Status, WriteFault>
-    ensures lives { IfOk result (Lives F.reads T.came T.sent T.unsent T.missed words.now
+) -> Result<ExitStatus, WriteFault>
+    ensures lives { IfOk result (Lives F.reads T.received T.sent T.unsent T.missed words.now
         files.old files.new talk.old talk.new) }
-    ensures unsent { IfErr result (IsUnsent F.reads T.came T.sent T.unsent T.missed words.now
+    ensures unsent { IfErr result (IsUnsent F.reads T.received T.sent T.unsent T.missed words.now
         files.old files.new talk.old talk.new) }
 {
     match live_on(alloc, words, files, talk) {
         Ok(some_bad) => Ok(status_of(some_bad)),
         Err(halt) => {
             let fault = halt.fault()?;
-            tell(alloc, &fault, talk)?;
+            send_fault(alloc, &fault, talk)?;
             *place = place_of(fault);
-            Ok(Status::Failed)
+            Ok(ExitStatus::Failed)
         }
     }
 }

@@ -54,7 +54,7 @@ pub fn put_code(text: &mut Vec<u8>, code: u8)
     requires small { code < 10 }
     requires room { vec_len text.old + 2 ≤ vec_capacity text.old }
     ensures items { text.new.items ≡ text.old.items ++ (decimal code ++ 10 ∷ []) }
-    ensures behind { (begun words : List ℕ) → text.old.items ≡ begun ++ words
+    ensures following { (begun words : List ℕ) → text.old.items ≡ begun ++ words
         → text.new.items ≡ begun ++ (words ++ decimal code ++ 10 ∷ []) }
 {
     put(text, &[b'0' + code, b'\n']);
@@ -65,7 +65,7 @@ pub fn put_code(text: &mut Vec<u8>, code: u8)
 pub fn put_discard_code(text: &mut Vec<u8>, discard: Discard)
     requires { vec_len text.old + 2 ≤ vec_capacity text.old }
     ensures items { text.new.items ≡ text.old.items ++ (decimal (discard_code discard) ++ 10 ∷ []) }
-    ensures behind { (begun words : List ℕ) → text.old.items ≡ begun ++ words
+    ensures following { (begun words : List ℕ) → text.old.items ≡ begun ++ words
         → text.new.items ≡ begun ++ (words ++ decimal (discard_code discard) ++ 10 ∷ []) }
 {
     put_code(text, discard.code());

@@ -5,7 +5,7 @@ ghost use Rattle.std.specs.Vec.{vec_capacity, vec_len};
 ghost use Rattle.job_live.specs.ScrubLines.{found_text, scrub_line};
 
 use crate::putting::{put, put_port};
-use scrub::{Found, Health};
+use scrub::{ScrubFindings, Health};
 
 /// How many bytes the longest line of a scrub has: `journal scrub SLOT withdrawn`, with a slot of three digits.
 pub const MOST_OF_SCRUB: usize = 28;
@@ -30,13 +30,13 @@ fn put_scrub(text: &mut Vec<u8>, slot: u8, state: &[u8])
 /// Puts the line of what a scrub found after a text: `journal scrub SLOT mended` or `journal scrub SLOT withdrawn`. It
 /// puts nothing for a program that was whole. The condition is room for the longest ([`MOST_OF_SCRUB`]).
 #[tactic(auto, using(crate::proofs::PutText::none_more))]
-pub fn put_found(text: &mut Vec<u8>, found: Option<Found>)
+pub fn put_found(text: &mut Vec<u8>, found: Option<ScrubFindings>)
     requires { vec_len text.old + MOST_OF_SCRUB ≤ vec_capacity text.old }
     ensures items { text.new.items ≡ text.old.items ++ found_text found }
     ensures len { vec_len text.new ≤ vec_len text.old + MOST_OF_SCRUB }
     ensures room { vec_capacity text.old ≤ vec_capacity text.new }
 {
-    let Some(Found { slot, health }) = found else {
+    let Some(ScrubFindings { slot, health }) = found else {
         return;
     };
     match health {

@@ -1,9 +1,9 @@
 //! The write of an instrument: `set EXTENDED ADDRESS BYTES`.
 
 ghost use Rattle.std.specs.Prelude.{ℕ, List, IfErr, IfOk, MatchResult, map};
-ghost use Rattle.job_live.specs.Asks.{IsAsked};
+ghost use Rattle.job_live.specs.Asks.{IsAskedBy};
 ghost use Rattle.job_live.specs.declared.asks.Asks.TheVariants.{Set};
-ghost use Rattle.job_live.specs.Settings.{AreNoBytes, AreSetWords, IsNoAddress, IsNoByte, IsNoSetting, WritesAddress, WritesByte, WritesBytes, WritesSetting};
+ghost use Rattle.job_live.specs.Settings.{AreNoBytes, AreSetWords, IsNoAddress, IsNoByte, IsNoSetting, WritesAddress, WritesByteDigits, WritesByteList, WritesSetting};
 
 use hex::FromHex;
 use job_parts::bad_lines::BadLine;
@@ -26,7 +26,7 @@ const NOT_HEX: BadLine = BadLine::Line(LineFault::BadHex);
 
 /// The byte that two hexadecimal digits write.
 fn byte_of(word: &str) -> Result<u8, BadLine>
-    ensures { MatchResult result (WritesByte word.now) (IsNoByte word.now) }
+    ensures { MatchResult result (WritesByteDigits word.now) (IsNoByte word.now) }
 {
     match <[u8; 1] as FromHex>::from_hex(word) {
         Ok(bytes) => Ok(bytes[0]),
@@ -46,7 +46,7 @@ fn address_of(word: &str) -> Result<u32, BadLine>
 
 /// The bytes that pairs of hexadecimal digits write.
 fn bytes_of(alloc: Global, word: &str) -> Result<Vec<u8>, BadLine>
-    ensures { MatchResult result (λ bytes. WritesBytes word.now bytes.items) (AreNoBytes word.now) }
+    ensures { MatchResult result (λ bytes. WritesByteList word.now bytes.items) (AreNoBytes word.now) }
 {
     Ok(hex::decode(alloc, word).map_err(LineFault::from)?)
 }
@@ -75,7 +75,7 @@ fn setting_of(alloc: Global, extended: &str, address: &str, bytes: &str) -> Resu
 /// In this order: `NoEvent` for another number of words, and `BadHex` for a word that is no such digits. `Memory` if
 /// memory was refused.
 pub fn read_setting(alloc: Global, words: &[&str]) -> Result<Setting, BadLine>
-    requires { IsAsked (map (λ word. word.now) words.now) Set }
+    requires { IsAskedBy (map (λ word. word.now) words.now) Set }
     ensures ok { IfOk result (WritesSetting (map (λ word. word.now) words.now)) }
     ensures err { IfErr result (IsNoSetting (map (λ word. word.now) words.now)) }
 {

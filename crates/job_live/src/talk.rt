@@ -8,7 +8,7 @@ use job_parts::storage::Cannot;
 /// Lines that come one by one, and text that is sent between them. Each implementer says what came and what was sent.
 pub trait Talk {
     /// The line that came between two states, without its line feed, or none if no more come.
-    ghost came: { Self → Option (List ℕ) → Self → Type 0 };
+    ghost received: { Self → Option (List ℕ) → Self → Type 0 };
 
     /// The bytes that left between two states, of which none is held back.
     ghost sent: { Self → List ℕ → Self → Type 0 };
@@ -27,8 +27,8 @@ pub trait Talk {
     ///
     /// `Cannot` if the line cannot be read, or memory is refused.
     fn next(&mut self, line: &mut String) -> Result<bool, Cannot>
-        ensures came { IfOk result (λ is_given.
-            came self.old (line_given is_given (string_bytes line.new)) self.new) }
+        ensures received { IfOk result (λ is_given.
+            received self.old (line_given is_given (string_bytes line.new)) self.new) }
         ensures missed { IfErr result (λ _. missed self.old self.new) };
 
     /// Sends all of the text.

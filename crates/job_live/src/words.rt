@@ -8,7 +8,7 @@ ghost use Rattle.job_live.specs.Words.{GivesScrub, IsScrubCount, NamesLive, Refu
 
 use clap::{ArgMatches, Command};
 use job_config::sources::{NodeSource, source_arguments, source_of};
-use job_parts::arguments::{flag, is_set, option, text_of};
+use job_parts::arguments::{flag, is_flag_set, option, text_of};
 use job_parts::usage::UsageFault;
 use std::alloc::{AllocError, Global};
 
@@ -103,8 +103,8 @@ pub fn live_job(alloc: Global, found: &ArgMatches) -> Result<LiveWords, UsageFau
 {
     let node = source_of(alloc, found)?;
     let scrub = scrub_of(found)?;
-    let entries = is_set(found, "entries");
-    let frames = is_set(found, "frames");
+    let entries = is_flag_set(found, "entries");
+    let frames = is_flag_set(found, "frames");
     if frames && !serves_frames(&node) {
         return Err(UsageFault::BadOption);
     }

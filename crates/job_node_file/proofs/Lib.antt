@@ -2,4 +2,4 @@ mod Digits
 pub mod Joined
 mod Rows
 pub mod Sizes
-pub mod Untold
+pub mod Unprinted

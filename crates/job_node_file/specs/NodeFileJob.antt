@@ -2,7 +2,7 @@
 use Rattle.std.specs.Prelude.{◌≡◌, List, Option, Some, None, codes, option_map, string_bytes}
 use Rattle.clap.specs.Walk.{Row, first_of}
 use Rattle.clap.specs.Simple.{App, new_app, with_rule}
-use Rattle.job_parts.specs.Arguments.{file_rule, flag_rule, is_set, option_rule}
+use Rattle.job_parts.specs.Arguments.{file_rule, flag_rule, is_flag_set, option_rule}
 use Rattle.job_parts.specs.Inputs.{InputValue, input}
 use Rattle.job_parts.specs.declared.inputs.Content.TheVariants.{Node, Table}
 use Rattle.job_node_file.specs.declared.node_file.NodeFileWords.{NodeFileWords}
@@ -17,7 +17,7 @@ node_file_app =
 -- the words are those of node with these matches
 abbrev pub NamesNodeFile : List Row → NodeFileWords → Type 0
 NamesNodeFile rows words =
-    (first_of (codes "node") rows ≡ Some (string_bytes words.node)) × (words.header ≡ is_set (codes "c") rows)
+    (first_of (codes "node") rows ≡ Some (string_bytes words.node)) × (words.header ≡ is_flag_set (codes "c") rows)
     × (first_of (codes "table") rows ≡ option_map string_bytes words.table)
 
 -- the table, if one is named

@@ -13,8 +13,8 @@ use Rattle.policy_table.specs.declared.text_faults.TextFault.{TextFault}
 use Rattle.spw.specs.Line.{lines_of}
 use Rattle.machine.specs.Sizes.{Maps}
 use Rattle.job_config.specs.OwnNodes.{OwnNodeValue}
-use Rattle.job_config.specs.Reads.{Ends}
-use Rattle.job_parts.specs.Files.{Reads}
+use Rattle.job_config.specs.Reads.{EndsForFault}
+use Rattle.job_parts.specs.Files.{ReadsFile}
 use Rattle.job_parts.specs.Reading.{TextUnread}
 use Rattle.job_parts.specs.declared.faults.Fault.{Fault}
 use Rattle.job_parts.specs.declared.faults.Fault.TheVariants.{BadTable, NoMemory}
@@ -76,21 +76,21 @@ pub record IsOtherTable (own : OwnNodeValue) (program : AcceptedValue) (text : L
 abbrev pub IsNoQuotas : OwnNodeValue → AcceptedValue → (text : List ℕ) → Fault → Type 0
 IsNoQuotas own program text fault =
     ((found : TextFault) × (fault ≡ BadTable (text_fault_of found)) × IsTableFault own.sizes (lines_of text) found)
-    ⊎ (Ends (Some NoImage) fault × IsOtherTable own program text)
+    ⊎ (EndsForFault (Some NoImage) fault × IsOtherTable own program text)
     ⊎ ((fault ≡ NoMemory) × (policy : PolicyValue) × (p : Program) × HasTable own text policy p)
 
 -- the quotas of the text of a table, if there is one
-abbrev pub AreAsked : OwnNodeValue → AcceptedValue → (text : Option (List ℕ)) → Option (List Quota) → Type 0
-AreAsked own program None quotas = quotas ≡ None
-AreAsked own program (Some text) None = ⊥
-AreAsked own program (Some text) (Some quotas) = AreQuotas own program text quotas
+abbrev pub AreQuotasOf : OwnNodeValue → AcceptedValue → (text : Option (List ℕ)) → Option (List Quota) → Type 0
+AreQuotasOf own program None quotas = quotas ≡ None
+AreQuotasOf own program (Some text) None = ⊥
+AreQuotasOf own program (Some text) (Some quotas) = AreQuotas own program text quotas
 
 -- the same, why there are none
 abbrev pub AreNotAsked : OwnNodeValue → AcceptedValue → (text : Option (List ℕ)) → Fault → Type 0
 AreNotAsked own program None fault = ⊥
 AreNotAsked own program (Some text) fault = IsNoQuotas own program text fault
 
-module _ {S : Type 0} (reads : Reads S) where
+module _ {S : Type 0} (reads : ReadsFile S) where
   -- the file of the table was read, and gave UTF-8
   pub record ReadsTable (name : List ℕ) (before : S) (text : List ℕ) (after : S) : Type 0 where
     pub read : reads before name (Some text) after

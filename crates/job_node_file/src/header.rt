@@ -45,8 +45,8 @@ fn add_byte(text: &mut String, count: usize, place: usize, byte: u8) -> Result<(
     ensures { OnOk result (string_bytes text.new ≡ string_bytes text.old ++ byte_text count place byte) }
 {
     let digits = TwoDigits(byte);
-    let behind = behind_byte(ends_row(count, place));
-    write!(text, "0x{digits},{behind}")
+    let following = behind_byte(ends_row(count, place));
+    write!(text, "0x{digits},{following}")
 }
 
 /// Adds bytes, 16 in a row.

@@ -4,7 +4,7 @@ ghost use Rattle.std.specs.Prelude.{◌≡◌, ◌++◌, ℕ, List, IfErr, IfOk,
 ghost use Rattle.clap.specs.Walk.{first_of};
 ghost use Rattle.job_parts.specs.Matched.{app_of, fields_of, found_of, rows_of};
 ghost use Rattle.job_node_file.specs.NodeFileJob.{NamesNodeFile, first_input, node_file_app, second_input};
-ghost use Rattle.job_node_file.specs.Printed.{HasEnd, IsNotTold, PrintsNodeFile};
+ghost use Rattle.job_node_file.specs.Printed.{HasEnd, HasNoText, PrintsNodeFile};
 ghost use Rattle.job_node_file.specs.Quotas.{lines_asked};
 ghost use Rattle.job_parts.specs.Arguments.{Lacks};
 ghost use Rattle.job_parts.specs.Statuses.{IsDoneWith};
@@ -17,11 +17,11 @@ use bver::Accepted;
 use clap::{ArgMatches, Command};
 use job_config::own_node::OwnNode;
 use job_config::reading::{ReadNode, node_in};
-use job_parts::arguments::{file, flag, is_set, name_of, option};
+use job_parts::arguments::{file, flag, is_flag_set, name_of, option};
 use job_parts::inputs::{Content, InputFile, Inputs};
 use job_parts::printing::print_text;
-use job_parts::status::Status;
-use job_parts::stops::Halt;
+use job_parts::status::ExitStatus;
+use job_parts::stops::JobStop;
 use job_parts::storage::Files;
 use job_parts::usage::UsageFault;
 use machine::{MapKind, MapSizes};
@@ -186,7 +186,7 @@ pub fn node_file_command<'a>(alloc: Global) -> Result<Command<'a>, AllocError>
 }
 
 /// The name of the file of the table by `--table`, if the option is given.
-fn table_of(alloc: Global, found: &ArgMatches) -> Result<Option<String>, AllocError>
+fn table_name_of(alloc: Global, found: &ArgMatches) -> Result<Option<String>, AllocError>
     ensures { IfOk result (λ table. first_of (codes "table") (rows_of (found_of found.now))
         ≡ option_map string_bytes table) }
 {
@@ -206,8 +206,8 @@ pub fn node_file_job(alloc: Global, found: &ArgMatches) -> Result<NodeFileWords,
     ensures err { IfErr result (Lacks (codes "node") (rows_of (found_of found.now))) }
 {
     let node = name_of(alloc, found, "node")?;
-    let header = is_set(found, "c");
-    let table = table_of(alloc, found)?;
+    let header = is_flag_set(found, "c");
+    let table = table_name_of(alloc, found)?;
     Ok(NodeFileWords {
         node,
         header,
@@ -227,11 +227,11 @@ pub fn print_node_file<'a, F: Files, W: Write>(
     words: &'a NodeFileWords,
     files: &mut F,
     out: &mut W,
-) -> Result<Status, Halt<'a>>
+) -> Result<ExitStatus, JobStop<'a>>
     ensures done { IfOk result (IsDoneWith (PrintsNodeFile F.reads words.now files.old files.new
         (W.contents out.old) (W.contents out.new))) }
     ensures stops { IfErr result (StopsBy (λ fault.
-        IsNotTold F.reads words.now files.old files.new fault)) }
+        HasNoText F.reads words.now files.old files.new fault)) }
     ensures quiet { IfErr result (StopsBy (λ _. W.contents out.new ≡ W.contents out.old)) }
 {
     let table = asked_text(alloc, files, words.table.as_deref())?;
@@ -239,5 +239,5 @@ pub fn print_node_file<'a, F: Files, W: Write>(
     let quotas = asked_quotas(alloc, table.as_deref(), &node, &program)?;
     let text = text_of(alloc, words, &node, &program, &quotas)?;
     print_text(out, text.as_str())?;
-    Ok(Status::Done)
+    Ok(ExitStatus::Done)
 }

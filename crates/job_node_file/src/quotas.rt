@@ -2,8 +2,8 @@
 
 ghost use Rattle.std.specs.Prelude.{◌≡◌, ◌++◌, IfErr, IfOk, OnOk, Some, length, option_map, string_bytes};
 ghost use Rattle.std.specs.List.{flat_map};
-ghost use Rattle.job_config.specs.Reads.{Ends};
-ghost use Rattle.job_node_file.specs.Quotas.{AreAsked, AreNotAsked, AreQuotas, IsNoQuotas, IsTableFault, ReadsAsked, ReadsNotAsked, c_asked, c_quotas, header_end, is_flown, is_image, is_published, lines_asked, quota_line, quota_list, quota_row, quota_rows, quotas_head, quotas_in};
+ghost use Rattle.job_config.specs.Reads.{EndsForFault};
+ghost use Rattle.job_node_file.specs.Quotas.{AreQuotasOf, AreNotAsked, AreQuotas, IsNoQuotas, IsTableFault, ReadsAsked, ReadsNotAsked, c_asked, c_quotas, header_end, is_flown, is_image, is_published, lines_asked, quota_line, quota_list, quota_row, quota_rows, quotas_head, quotas_in};
 ghost use Rattle.job_parts.specs.declared.node_codes.NodeCode.TheVariants.{Program as NoImage};
 ghost use Rattle.policy.specs.Compiled.{IsPortCompiled};
 ghost use Rattle.policy_table.specs.Policies.{WritesPolicy};
@@ -81,7 +81,7 @@ fn compiled(alloc: Global, text: &str, sizes: &MapSizes) -> Result<(Policy, Imag
 
 /// That a node's file names no image of a table.
 fn no_image<'a>(alloc: Global) -> Fault<'a>
-    ensures { Ends (Some NoImage) result }
+    ensures { EndsForFault (Some NoImage) result }
 {
     match String::from_str(alloc, "the table compiles to no image of the node's file") {
         Ok(place) => Fault::BadNode {
@@ -147,7 +147,7 @@ pub fn asked_quotas<'a>(
     node: &OwnNode,
     program: &Accepted,
 ) -> Result<Option<Vec<Quota>>, Fault<'a>>
-    ensures quotas { IfOk result (λ quotas. AreAsked node.now program.now
+    ensures quotas { IfOk result (λ quotas. AreQuotasOf node.now program.now
         (option_map (λ t. t.now) text.entry) (option_map (λ q. q.items) quotas)) }
     ensures none { IfErr result
         (AreNotAsked node.now program.now (option_map (λ t. t.now) text.entry)) }

@@ -21,8 +21,8 @@ use Rattle.node_parts.specs.Served.{IsAnswered, PartsValue}
 use Rattle.node_parts.specs.declared.served.Served.{Served}
 use Rattle.node_parts.specs.declared.served.Served.TheVariants.{Stopped, Unread, Done, Window}
 use Rattle.single_node.specs.Nodes.{Rotates, RotatesTo, SetsBytes as SetsAlone, SetsMemory, SingleNodeValue, covers_in, room_in}
-use Rattle.single_node.specs.Serving.{Serves as ServesAlone}
-use Rattle.job_nodes.specs.JobNode.{AreKept, HandsOut, IsJobNode, JobNodeValue, SetsBytes, alone, emptied, journal_of, rooms_of}
+use Rattle.single_node.specs.Serving.{ServesPacketAt as ServesAlone}
+use Rattle.job_nodes.specs.JobNode.{ArePortsKept, HandsOut, IsJobNode, JobNodeValue, SetsNodeBytes, alone, emptied, journal_of, rooms_of}
 
 -- how many entries its journal has room for
 abbrev room : BankValue → ℕ
@@ -44,7 +44,7 @@ answered_rooms (Stopped stop) p old new h after reply s = ap (λ (x : PartsValue
 answered_rooms Unread p old new h after reply s = ap (λ (x : PartsValue). rooms_of x.banks) s.1.node
 answered_rooms (Done result) p old new h after reply s =
     ap (λ (x : PartsValue). rooms_of x.banks) s.node
-    ∙ rooms_stay old.banks s.number s.before s.behind s.bank (ap room s.ended.bank ∙ by_room (has_room s.before s.judged.port) s.before (share_of s.between s.judged.place) s.judged)
+    ∙ rooms_stay old.banks s.number s.before s.following s.bank (ap room s.ended.bank ∙ by_room (has_room s.before s.judged.port) s.before (share_of s.between s.judged.place) s.judged)
 answered_rooms (Window status) p old new h after reply s = ap rooms_of s.banks
 
 -- the same ports with as many bytes, and the same rooms
@@ -76,7 +76,7 @@ turned_stays number before after old out is =
     (ap (λ (s : SingleNodeValue). length s.passes) out.rotated.rotated) out.kept.held is
 
 -- so do bytes that are set
-pub set_stays : (number address : ℕ) (bytes : List ℕ) (before after : JobNodeValue) (old : JournalValue) → SetsBytes number address bytes before after old → IsJobNode before → IsJobNode after
+pub set_stays : (number address : ℕ) (bytes : List ℕ) (before after : JobNodeValue) (old : JournalValue) → SetsNodeBytes number address bytes before after old → IsJobNode before → IsJobNode after
 set_stays number address bytes before after old out is =
     stays before after
     (ap (λ (s : SingleNodeValue). rooms_of s.banks) out.set.set
@@ -87,7 +87,7 @@ set_stays number address bytes before after old out is =
 pub turned_banks : (number : ℕ) (before after : JobNodeValue) (old : JournalValue) → HandsOut number before after old → length after.banks ≡ length before.banks
 turned_banks number before after old out = ap (λ (s : SingleNodeValue). length s.banks) out.rotated.rotated ∙ length-set before.banks number _
 
-pub set_banks : (number address : ℕ) (bytes : List ℕ) (before after : JobNodeValue) (old : JournalValue) → SetsBytes number address bytes before after old → length after.banks ≡ length before.banks
+pub set_banks : (number address : ℕ) (bytes : List ℕ) (before after : JobNodeValue) (old : JournalValue) → SetsNodeBytes number address bytes before after old → length after.banks ≡ length before.banks
 set_banks number address bytes before after old out = ap (λ (s : SingleNodeValue). length s.banks) out.set.set ∙ length-set before.banks number _
 
 -- the journal of a bank has room for an entry
@@ -131,7 +131,7 @@ pub some_port : (ports : ℕ) → is_ports ports ≡ true → 1 ≤ ports
 some_port ports h = leb-true 1 ports (and_parts (nat_le 1 ports) _ h).0
 
 -- an empty journal that began at a bank: its own came out
-pub turned : (number : ℕ) (before after : JobNodeValue) → RotatesTo number (room_in (slice_get before.banks number)) (alone before) (alone after) → AreKept before after
+pub turned : (number : ℕ) (before after : JobNodeValue) → RotatesTo number (room_in (slice_get before.banks number)) (alone before) (alone after) → ArePortsKept before after
     → HandsOut number before after (journal_of (slice_get before.banks number))
 turned number before after turn kept =
     let own : turn.old ≡ journal_of (slice_get before.banks number) = turn.rotates.journal ∙ ap journal_of (sym turn.rotates.own) in
@@ -142,8 +142,8 @@ turned number before after turn kept =
 
 -- so with bytes that are set
 pub set_turned : (number address : ℕ) (bytes : List ℕ) (before after : JobNodeValue)
-    → SetsAlone number address bytes (room_in (slice_get before.banks number)) (alone before) (alone after) → AreKept before after
-    → SetsBytes number address bytes before after (journal_of (slice_get before.banks number))
+    → SetsAlone number address bytes (room_in (slice_get before.banks number)) (alone before) (alone after) → ArePortsKept before after
+    → SetsNodeBytes number address bytes before after (journal_of (slice_get before.banks number))
 set_turned number address bytes before after set kept =
     let own : set.old ≡ journal_of (slice_get before.banks number) = set.sets.journal ∙ ap journal_of (sym set.sets.own) in
     record {

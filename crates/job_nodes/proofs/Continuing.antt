@@ -62,19 +62,19 @@ module _ {line : List ℕ} {feeds held : List (List ℕ)} {port place : ℕ} {ow
   -- a piece that is too long
   pub overfills : (fault : LineFault) (after : List ℕ) → fault ≡ TooLong → after ≡ own → MAX_PACKET < length own + length piece
       → IsNotFed line held (slice_set feeds place after) (Line fault)
-  overfills fault after told kept long =
+  overfills fault after reported kept long =
       let much : MAX_PACKET < length joined = omega (arith, long, ap (λ (xs : List ℕ). length xs) whole, length-append own piece) in
       let same = ap (λ (x : List ℕ). slice_set feeds place x) (kept ∙ is.found) ∙ set-get_or feeds place own ∙ is.feeds_are in
-      subst (λ (f : LineFault). IsNotFed line held (slice_set feeds place after) (Line f)) (sym told) (inr (port, joined, mark, continues, much), same)
+      subst (λ (f : LineFault). IsNotFed line held (slice_set feeds place after) (Line f)) (sym reported) (inr (port, joined, mark, continues, much), same)
 
   -- a piece that ends its packet, to which memory is refused
   pub stays : (fault : LineFault) (end : End) (after : List ℕ)
       → fault ≡ Memory → after ≡ joined → mark ≡ Some end → (MAX_PACKET < length own + length piece → ⊥)
       → IsNotFed line held (slice_set feeds place after) (Line fault)
-  stays fault end after told kept closed few =
+  stays fault end after reported kept closed few =
       let all = subst (λ (m : Option End). Continues line held port joined m) closed continues in
       let same = ap (λ (x : List ℕ). slice_set feeds place x) kept ∙ set joined in
-      subst (λ (f : LineFault). IsNotFed line held (slice_set feeds place after) (Line f)) (sym told) (inr (port, joined, end, all, short few, same))
+      subst (λ (f : LineFault). IsNotFed line held (slice_set feeds place after) (Line f)) (sym reported) (inr (port, joined, end, all, short few, same))
 
   -- a piece that ends no packet, for what it was refused
   pub unended : (fault : LineFault) (end : End) (after : List ℕ) → mark ≡ Some end → IsUnended own piece after fault

@@ -9,8 +9,8 @@ use Rattle.sched.specs.Looking.{Node}
 use Rattle.sched.specs.Worlds.{IsWorldOf, WorldValue, node_with}
 use Rattle.job_config.specs.OwnNodes.{IsConfigOf, OwnNodeValue}
 use Rattle.job_config.specs.Reads.{ReadsNode}
-use Rattle.job_parts.specs.Files.{Reads}
-use Rattle.job_nodes.specs.Beginning.{AreEmpty, IsBegun, IsFileBeginning, own_schedule}
+use Rattle.job_parts.specs.Files.{ReadsFile}
+use Rattle.job_nodes.specs.Beginning.{AreEmpty, IsBegunWorld, IsFileBeginning, own_schedule}
 
 -- the node of that configuration
 pub own_start : (own : OwnNodeValue) (config : NodeConfig) (program : AcceptedValue) (publishes : List (ℕ × AcceptedValue)) (world : WorldValue) → IsConfigOf own config
@@ -20,9 +20,9 @@ own_start own config program publishes world is are start =
     subst (λ (n : Node). IsWorldOf n Start world) same start
 
 -- the world of a node's file that was read
-pub file_begun : {S : Type 0} (reads : Reads S) (name : List ℕ) (before after : S) (own : OwnNodeValue) (program : AcceptedValue) (world : WorldValue)
+pub file_begun : {S : Type 0} (reads : ReadsFile S) (name : List ℕ) (before after : S) (own : OwnNodeValue) (program : AcceptedValue) (world : WorldValue)
     → ReadsNode reads name before own program after → AreEmpty own.contents → IsWorldOf (own_schedule own program.program) Start world
-    → IsBegun (λ (n : Node). IsFileBeginning reads name before n after) world
+    → IsBegunWorld (λ (n : Node). IsFileBeginning reads name before n after) world
 file_begun reads name before after own program world read zeros start = record {
   node = own_schedule own program.program;
   begun = record { own = own; program = program; read = read; zeros = zeros; node = refl };

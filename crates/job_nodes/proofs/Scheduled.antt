@@ -3,10 +3,10 @@ use Rattle.std.proofs.Common.{◌≡◌, ℕ, List, Option, None, Some, subst}
 use Rattle.std.specs.Prelude.{MatchOption}
 use Rattle.sched.specs.Worlds.{WorldValue}
 use Rattle.job_config.specs.declared.node_lines.NodeLines.{NodeLines}
-use Rattle.job_parts.specs.Files.{Reads}
+use Rattle.job_parts.specs.Files.{ReadsFile}
 use Rattle.job_nodes.specs.Beginning.{GivesSchedule, HasContents, HoldsWorld, IsScheduled, RefusesContents}
 
-module _ {S : Type 0} (reads : Reads S) (args : NodeLines) (before : S) (text : List ℕ) (made : Option WorldValue) (after : S) where
+module _ {S : Type 0} (reads : ReadsFile S) (args : NodeLines) (before : S) (text : List ℕ) (made : Option WorldValue) (after : S) where
   -- the world that was made
   pub world_in : (world : WorldValue) (gives : GivesSchedule reads args before text made after) → made ≡ Some world → HoldsWorld reads args.node gives.between world after
   world_in world gives is =

@@ -11,8 +11,8 @@ use Rattle.job_nodes.specs.Beginning.{node_by}
 use Rattle.job_nodes.specs.EventLines.{IsEventOf}
 use Rattle.job_nodes.specs.JobNode.{IsConfig}
 use Rattle.job_nodes.specs.SimJob.{outcome_line, outcome_lines}
-use Rattle.job_nodes.specs.Simulated.{IsCutShort, IsNotStepped, IsStuck, SimulatesFrom, Steps}
-use Rattle.job_parts.specs.Turns.{AreTaken, StopsIn}
+use Rattle.job_nodes.specs.Simulated.{IsCutShort, IsNotStepped, IsStuck, SimulatesFrom, StepsEventLine}
+use Rattle.job_parts.specs.Turns.{AreTaken, StopsInLines}
 use Rattle.job_parts.specs.declared.faults.Fault.{Fault}
 use Rattle.job_parts.specs.declared.options.NodeWords.{NodeWords}
 
@@ -34,7 +34,7 @@ appends_nothing (Some xs) = sym (append-nil xs)
 
 -- lines that the world took in turn are simulated after each history whose world it was
 pub simulates_from : (n : Node) (h : History) (lines : List (List ℕ)) (before after : WorldValue) (old new : Option (List ℕ))
-    → IsLawfulWorld n h before → AreTaken Steps lines before after old new → SimulatesFrom n h lines after old new
+    → IsLawfulWorld n h before → AreTaken StepsEventLine lines before after old new → SimulatesFrom n h lines after old new
 simulates_from n h [] before after old new lawful all = record {
   events = [];
   outcomes = [];
@@ -57,7 +57,7 @@ simulates_from n h (line ∷ lines) before after old new lawful all =
 
 -- a line at which the world stopped cuts them short
 pub cuts_short : (n : Node) (h : History) (lines : List (List ℕ)) (before after : WorldValue) (old new : Option (List ℕ)) (fault : Fault)
-    → IsLawfulWorld n h before → StopsIn Steps IsStuck lines before after old new fault → IsCutShort n h lines old new fault
+    → IsLawfulWorld n h before → StopsInLines StepsEventLine IsStuck lines before after old new fault → IsCutShort n h lines old new fault
 cuts_short n h lines before after old new fault lawful stop =
     let all = simulates_from n h stop.done before stop.between old stop.printed lawful stop.all in
     record {

@@ -16,7 +16,7 @@ use Rattle.job_config.specs.declared.own_node.TheConstants.{NODE_ADDRESS}
 use Rattle.job_config.specs.declared.node_lines.NodeLines.{NodeLines}
 use Rattle.job_config.specs.declared.sources.NodeSource.{NodeSource}
 use Rattle.job_config.specs.declared.sources.NodeSource.TheVariants.{File, Words}
-use Rattle.job_parts.specs.Files.{Reads}
+use Rattle.job_parts.specs.Files.{ReadsFile}
 use Rattle.job_parts.specs.Given.{HoldsProgram}
 use Rattle.job_parts.specs.Options.{image_name}
 use Rattle.job_parts.specs.Reading.{TextUnread}
@@ -53,12 +53,12 @@ abbrev pub AreEmpty : List (List ℕ) → Type 0
 AreEmpty contents = All (λ (bytes : List ℕ). bytes ≡ []) contents
 
 -- the world is that of a node with this property, after no event
-pub record IsBegun (begins : Node → Type 0) (world : WorldValue) : Type 0 where
+pub record IsBegunWorld (begins : Node → Type 0) (world : WorldValue) : Type 0 where
   pub node : Node
   pub begun : begins node
   pub is_world : IsWorldOf node Start world
 
-module _ {S : Type 0} (reads : Reads S) where
+module _ {S : Type 0} (reads : ReadsFile S) where
   -- the node is that of these words, with the program that its files give, which is justified on it, and so
   -- safe
   pub record IsPlainBeginning (words : NodeWords) (before : S) (n : Node) (after : S) : Type 0 where
@@ -77,14 +77,14 @@ module _ {S : Type 0} (reads : Reads S) where
     pub node : n ≡ own_schedule own program.program
 
   -- the schedules of the words or of the file are those of this node
-  abbrev pub BeginsAt : NodeSource → (before : S) → Node → (after : S) → Type 0
-  BeginsAt (Words words) before n after = IsPlainBeginning words before n after
-  BeginsAt (File name) before n after = IsFileBeginning (string_bytes name) before n after
+  abbrev pub BeginsSchedules : NodeSource → (before : S) → Node → (after : S) → Type 0
+  BeginsSchedules (Words words) before n after = IsPlainBeginning words before n after
+  BeginsSchedules (File name) before n after = IsFileBeginning (string_bytes name) before n after
 
   -- the world is that of such a node after no event
   abbrev pub HoldsWorld : NodeSource → (before : S) → WorldValue → (after : S) → Type 0
   HoldsWorld source before world after =
-      IsBegun (λ (n : Node). BeginsAt source before n after) world
+      IsBegunWorld (λ (n : Node). BeginsSchedules source before n after) world
 
   -- a bank of the node of the file begins with bytes
   pub record BeginsWithBytes (name : List ℕ) (before after : S) : Type 0 where
@@ -110,7 +110,7 @@ module _ {S : Type 0} (reads : Reads S) where
 
 -- ---- with the lines of a schedule
 
-module _ {S : Type 0} (reads : Reads S) (args : NodeLines) where
+module _ {S : Type 0} (reads : ReadsFile S) (args : NodeLines) where
   -- the text is that of the file of lines, which is UTF-8, and after it the world of these arguments was made. Or there
   -- is none, since a bank begins with bytes
   pub record GivesSchedule (before : S) (text : List ℕ) (made : Option WorldValue) (after : S) : Type 0 where
@@ -138,7 +138,7 @@ module _ {S : Type 0} (reads : Reads S) (args : NodeLines) where
     pub between : S
     pub read : reads before (string_bytes args.lines) (Some text) between
     pub utf8 : IsUtf8 text
-    pub begins : BeginsAt reads args.node between n after
+    pub begins : BeginsSchedules reads args.node between n after
 
   -- lines and node were read, and a bank begins with bytes, which was refused: nothing was printed
   pub record RefusesContents (before after : S) (old new : Option (List ℕ)) : Type 0 where

@@ -11,8 +11,8 @@ use Rattle.job_parts.specs.declared.bad_lines.BadLine.{BadLine}
 use Rattle.job_parts.specs.declared.bad_lines.BadLine.TheVariants.{Line, NoPort as NoSuchPort, NoEvent, NoRoom}
 
 -- the first word of the line is this one, and the words of the text come after it
-abbrev pub Begins : (word line text : List ℕ) → Type 0
-Begins word line text = words_of line ≡ word ∷ words_of text
+abbrev pub BeginsLine : (word line text : List ℕ) → Type 0
+BeginsLine word line text = words_of line ≡ word ∷ words_of text
 
 -- the word of an event that names a port and no more
 abbrev pub IsPortWord : List ℕ → Type 0
@@ -44,12 +44,12 @@ IsTakeLine text (Publish port) = ⊥
 
 -- the line is this word, and after it only a port
 abbrev pub IsPortLine : (word line : List ℕ) → ℕ → Type 0
-IsPortLine word line port = (text : List ℕ) × Begins word line text × WritesLonePort text port
+IsPortLine word line port = (text : List ℕ) × BeginsLine word line text × WritesLonePort text port
 
 -- the line writes the event: the word of the event, and after it a packet line or a port
 abbrev pub IsEventLine : List ℕ → Event → Type 0
 IsEventLine line (Take port packet) =
-    (text : List ℕ) × Begins (codes "take") line text × IsTakeLine text (Take port packet)
+    (text : List ℕ) × BeginsLine (codes "take") line text × IsTakeLine text (Take port packet)
 IsEventLine line (Count port) = IsPortLine (codes "count") line port
 IsEventLine line (Ticket port) = IsPortLine (codes "ticket") line port
 IsEventLine line (Peak port) = IsPortLine (codes "peak") line port
@@ -80,15 +80,15 @@ IsNoLonePort text NoRoom = ⊥
 
 -- the line is of an event that takes a packet, and the packet line after the word has this fault
 abbrev pub IsBadTake : List ℕ → LineFault → Type 0
-IsBadTake line fault = (text : List ℕ) × Begins (codes "take") line text × HasFault marker_word text fault
+IsBadTake line fault = (text : List ℕ) × BeginsLine (codes "take") line text × HasFault marker_word text fault
 
 -- the first word is that of an event, and the words of the text come after it
 abbrev pub IsOfEvent : (line text : List ℕ) → Type 0
-IsOfEvent line text = (word : List ℕ) × IsEventWord word × Begins word line text
+IsOfEvent line text = (word : List ℕ) × IsEventWord word × BeginsLine word line text
 
 -- the line is of an event that names a port and no more, and has more
 abbrev pub HasTooMany : List ℕ → Type 0
-HasTooMany line = (word : List ℕ) × (text : List ℕ) × IsPortWord word × Begins word line text × HasMoreWords text
+HasTooMany line = (word : List ℕ) × (text : List ℕ) × IsPortWord word × BeginsLine word line text × HasMoreWords text
 
 -- why a line writes no event: the first fault of no event, no port, those of a packet line, and words too many; or
 -- memory was refused

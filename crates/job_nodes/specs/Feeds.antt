@@ -25,9 +25,9 @@ abbrev pub IsFed : List ℕ → (before after : List (List ℕ)) → Option (ℕ
 IsFed line before after None =
     (port : ℕ) × (bytes : List ℕ) × Continues line before port bytes None × (length bytes ≤ MAX_PACKET)
     × (after ≡ slice_set before port bytes)
-IsFed line before after (Some came) =
-    Continues line before came.0 came.1.bytes (Some came.1.end) × (length came.1.bytes ≤ MAX_PACKET)
-    × (after ≡ slice_set before came.0 [])
+IsFed line before after (Some received) =
+    Continues line before received.0 received.1.bytes (Some received.1.end) × (length received.1.bytes ≤ MAX_PACKET)
+    × (after ≡ slice_set before received.0 [])
 
 -- the line writes a piece for a port, which with what the port holds is too long for a packet
 abbrev pub Overfills : List ℕ → List (List ℕ) → Type 0

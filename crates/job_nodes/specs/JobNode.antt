@@ -15,7 +15,7 @@ use Rattle.node_parts.specs.Nodes.{bank_of, first_pass, first_passes as all_firs
 use Rattle.node_parts.specs.Passes.{PassValue}
 use Rattle.plain_cells.specs.Words.{zero_words}
 use Rattle.single_node.specs.Nodes.{Rotates, SetsMemory, SingleNodeValue, room_in, single_node}
-use Rattle.single_node.specs.Serving.{Serves as ServesAlone}
+use Rattle.single_node.specs.Serving.{ServesPacketAt as ServesAlone}
 use Rattle.job_nodes.specs.Feeds.{IsFed, IsNotFed}
 pub use Rattle.job_config.specs.OwnNodes.{own_bank}
 use Rattle.job_config.specs.declared.own_node.TheConstants.{NODE_ADDRESS}
@@ -62,15 +62,15 @@ IsFreshOf config program node =
     (all_first_passes config program gnil) (replicate config.ports []) []
 
 -- what each of this many ports has of a fresh node at first, with seats at those cells
-abbrev pub first_passes : (ports : ℕ) → AcceptedValue → (home : Gv) → List PassValue
-first_passes ports program home = map (first_pass NODE_ADDRESS (own_bank ∷ []) program home) (range_with_len 0 ports)
+abbrev pub job_node_passes : (ports : ℕ) → AcceptedValue → (home : Gv) → List PassValue
+job_node_passes ports program home = map (first_pass NODE_ADDRESS (own_bank ∷ []) program home) (range_with_len 0 ports)
 
 -- the same of the node with this many ports that has logical address FE and that one bank
-abbrev pub IsFresh : (ports : ℕ) → AcceptedValue → JobNodeValue → Type 0
-IsFresh ports program node =
+abbrev pub IsFreshJobNode : (ports : ℕ) → AcceptedValue → JobNodeValue → Type 0
+IsFreshJobNode ports program node =
     node
     ≡ job_node (bank_of ports own_bank ∷ []) (zero_words program.sizes) (first_programs program)
-    (first_passes ports program gnil) (replicate ports []) []
+    (job_node_passes ports program gnil) (replicate ports []) []
 
 -- the node of one thread: what it holds of packets that have not ended, and the reply, are left out
 abbrev pub alone : JobNodeValue → SingleNodeValue
@@ -78,7 +78,7 @@ alone s = single_node s.banks s.words s.programs s.passes
 
 -- this became of the packet that came in at the port, by the last program that was published for its slot. The node has
 -- the reply that is due, and no other port changed
-pub record Serves (served : Served) (port : ℕ) (packet : Cargo) (before after : JobNodeValue) : Type 0 where
+pub record ServesOfPorts (served : Served) (port : ℕ) (packet : Cargo) (before after : JobNodeValue) : Type 0 where
   pub served_alone : ServesAlone served port packet (alone before) (alone after) after.reply
   pub held : after.held ≡ before.held
 
@@ -87,14 +87,14 @@ abbrev pub with_held : JobNodeValue → List (List ℕ) → JobNodeValue
 with_held node held = job_node node.banks node.words node.programs node.passes held node.reply
 
 -- the node with one program more that was published for that slot, and that is the same otherwise
-abbrev pub with_publish : JobNodeValue → (slot : ℕ) → AcceptedValue → JobNodeValue
-with_publish node slot program =
+abbrev pub with_node_publish : JobNodeValue → (slot : ℕ) → AcceptedValue → JobNodeValue
+with_node_publish node slot program =
     job_node node.banks node.words (longer_history node.programs slot program) node.passes node.held node.reply
 
 -- a port holds the line's piece, and no packet came, or the packet of a port came
-pub record FeedsLine (line : List ℕ) (came : Option (ℕ × Cargo)) (before after : JobNodeValue) : Type 0 where
+pub record FeedsLine (line : List ℕ) (received : Option (ℕ × Cargo)) (before after : JobNodeValue) : Type 0 where
   pub held : List (List ℕ)
-  pub fed : IsFed line before.held held came
+  pub fed : IsFed line before.held held received
   pub same : after ≡ with_held before held
 
 -- a port holds the line's piece, and no packet came
@@ -106,12 +106,12 @@ pub record ServesLine (line : List ℕ) (port : ℕ) (served : Served) (before a
   pub packet : Cargo
   pub held : List (List ℕ)
   pub fed : IsFed line before.held held (Some (port, packet))
-  pub step : Serves served port packet (with_held before held) after
+  pub step : ServesOfPorts served port packet (with_held before held) after
 
 -- what came of a line: no packet yet, or what became of a packet of a port
-abbrev pub TakesLine : List ℕ → Option (ℕ × Served) → (before after : JobNodeValue) → Type 0
-TakesLine line None before after = HoldsLine line before after
-TakesLine line (Some came) before after = ServesLine line came.0 came.1 before after
+abbrev pub TakesPacketLine : List ℕ → Option (ℕ × Served) → (before after : JobNodeValue) → Type 0
+TakesPacketLine line None before after = HoldsLine line before after
+TakesPacketLine line (Some received) before after = ServesLine line received.0 received.1 before after
 
 -- nothing came of a line, which has this fault, except what its port may hold
 pub record RefusesLine (line : List ℕ) (fault : BadLine) (before after : JobNodeValue) : Type 0 where
@@ -125,9 +125,9 @@ journal_of None = record { entries = []; room = 0 }
 journal_of (Some b) = b.journal
 
 -- the address of the first byte of a bank, if there is one
-abbrev pub first_of : Option BankValue → ℕ
-first_of None = 0
-first_of (Some b) = b.first
+abbrev pub first_address_of : Option BankValue → ℕ
+first_address_of None = 0
+first_address_of (Some b) = b.first
 
 -- the journal of a bank, if there is one, has room for no more entries
 abbrev pub is_full : Option BankValue → Bool
@@ -139,7 +139,7 @@ abbrev pub emptied : JobNodeValue → (number : ℕ) → JournalValue
 emptied node number = empty_journal (room_in (slice_get node.banks number))
 
 -- what ports hold, and the reply, are as before
-pub record AreKept (before after : JobNodeValue) : Type 0 where
+pub record ArePortsKept (before after : JobNodeValue) : Type 0 where
   pub held : after.held ≡ before.held
   pub reply : after.reply ≡ before.reply
 
@@ -147,11 +147,11 @@ pub record AreKept (before after : JobNodeValue) : Type 0 where
 -- began; nothing else changed
 pub record HandsOut (number : ℕ) (before after : JobNodeValue) (old : JournalValue) : Type 0 where
   pub rotated : Rotates number (emptied before number) (alone before) (alone after) old
-  pub kept : AreKept before after
+  pub kept : ArePortsKept before after
 
 -- the journal of the bank of that number came out, whose replay is the memory before. An empty one with as much room
 -- began after those bytes were put at that address; nothing else changed
-pub record SetsBytes (number address : ℕ) (bytes : List ℕ) (before after : JobNodeValue) (old : JournalValue) : Type 0
+pub record SetsNodeBytes (number address : ℕ) (bytes : List ℕ) (before after : JobNodeValue) (old : JournalValue) : Type 0
   where
     pub set : SetsMemory number address bytes (emptied before number) (alone before) (alone after) old
-    pub kept : AreKept before after
+    pub kept : ArePortsKept before after

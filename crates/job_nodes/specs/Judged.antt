@@ -3,15 +3,15 @@ use Rattle.std.specs.Prelude.{◌≡◌, ◌⊎◌, ℕ, List, Option, Some, str
 use Rattle.std.specs.Str.{IsUtf8}
 use Rattle.spw.specs.Line.{lines_of}
 use Rattle.job_config.specs.declared.node_lines.NodeLines.{NodeLines}
-use Rattle.job_parts.specs.Files.{Reads}
+use Rattle.job_parts.specs.Files.{ReadsFile}
 use Rattle.job_parts.specs.Reading.{TextUnread}
-use Rattle.job_parts.specs.Turns.{AreTaken, StopsIn}
+use Rattle.job_parts.specs.Turns.{AreTaken, StopsInLines}
 use Rattle.job_parts.specs.declared.faults.Fault.{Fault}
 use Rattle.job_nodes.specs.JobNode.{JobNodeValue}
 use Rattle.job_nodes.specs.Lines.{IsBadLine, Judges}
 use Rattle.job_nodes.specs.Sources.{HoldsNoNode, HoldsNode}
 
-module _ {S : Type 0} (reads : Reads S) (args : NodeLines) where
+module _ {S : Type 0} (reads : ReadsFile S) (args : NodeLines) where
   -- the text is that of the file of lines, which is UTF-8, and the node, which was read after it, is that of these
   -- arguments
   pub record IsReady (before : S) (text : List ℕ) (node : JobNodeValue) (after : S) : Type 0 where
@@ -47,7 +47,7 @@ module _ {S : Type 0} (reads : Reads S) (args : NodeLines) where
     pub fresh : JobNodeValue
     pub left : JobNodeValue
     pub ready : IsReady before text fresh after
-    pub bad : StopsIn Judges IsBadLine (lines_of text) fresh left old new fault
+    pub bad : StopsInLines Judges IsBadLine (lines_of text) fresh left old new fault
 
   -- why not all lines were judged: nothing was printed if lines or node cannot be read
   abbrev pub IsNotJudged : (before after : S) → (old new : Option (List ℕ)) → Fault → Type 0

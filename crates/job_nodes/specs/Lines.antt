@@ -7,7 +7,7 @@ use Rattle.node_parts.specs.declared.stop.Stop.TheVariants.{Discarded, Answered}
 use Rattle.job_parts.specs.Replies.{reply_line}
 use Rattle.job_parts.specs.Turns.{SeesEnd}
 use Rattle.job_parts.specs.declared.stops.LineEnd.TheVariants.{Bad, NoMemory}
-use Rattle.job_nodes.specs.JobNode.{JobNodeValue, RefusesLine, TakesLine}
+use Rattle.job_nodes.specs.JobNode.{JobNodeValue, RefusesLine, TakesPacketLine}
 use Rattle.job_nodes.specs.JudgeJob.{discard_line}
 
 -- the line that is printed of what became of a packet, with the reply that was due
@@ -21,13 +21,13 @@ served_line port (Window status) reply = reply_line port reply
 -- if no packet came of a line, nothing was printed, and else what became of its packet
 abbrev pub IsPrinted : Option (ℕ × Served) → (reply : List ℕ) → (old new : Option (List ℕ)) → Type 0
 IsPrinted None reply old new = new ≡ old
-IsPrinted (Some came) reply old new = Appends old new (served_line came.0 came.1 reply)
+IsPrinted (Some received) reply old new = Appends old new (served_line received.0 received.1 reply)
 
 -- the node took the line, and what came of it was printed
 pub record Judges (line : List ℕ) (before after : JobNodeValue) (old new : Option (List ℕ)) : Type 0 where
-  pub came : Option (ℕ × Served)
-  pub taken : TakesLine line came before after
-  pub printed : IsPrinted came after.reply old new
+  pub received : Option (ℕ × Served)
+  pub taken : TakesPacketLine line received before after
+  pub printed : IsPrinted received after.reply old new
 
 -- the node did not take the line, with which this is wrong, and nothing was printed
 abbrev pub IsBadLine : List ℕ → SeesEnd JobNodeValue

@@ -2,11 +2,11 @@
 use Rattle.std.specs.Prelude.{◌≡◌, ℕ, List, [], take, Option, None, Some}
 use Rattle.spw.specs.Cargo.{Cargo}
 use Rattle.scrub.specs.Guarded.{BeginsGuard, GuardedValue, ServesGuarded}
-use Rattle.scrub.specs.declared.answer.Answer.{Answer}
+use Rattle.scrub.specs.declared.answer.ServedAnswer.{ServedAnswer}
 use Rattle.scrub.specs.declared.guard.Guard.{Guard}
 use Rattle.job_nodes.specs.Feeds.{IsFed}
 use Rattle.job_nodes.specs.JobNode.{HoldsLine, JobNodeValue, alone, job_node, with_held}
-use Rattle.job_nodes.specs.declared.live_node.Taken.{Taken}
+use Rattle.job_nodes.specs.declared.live_node.LineResult.{LineResult}
 
 -- a node as the other jobs have it, and a guard of its programs if they are scrubbed
 pub record LiveNodeValue : Type 0 where
@@ -44,7 +44,7 @@ pub record IsLive (scrub : Option ℕ) (node : JobNodeValue) (live : LiveNodeVal
 
 -- this became of the packet that came in at the port (`ServesGuarded`). The reply that is due is what was put at the
 -- front of a room for it, and no port holds other bytes
-pub record ServesLive (answer : Answer) (port : ℕ) (packet : Cargo) (before after : LiveNodeValue) : Type 0 where
+pub record ServesLive (answer : ServedAnswer) (port : ℕ) (packet : Cargo) (before after : LiveNodeValue) : Type 0 where
   pub room : List ℕ
   pub left : List ℕ
   pub serves : ServesGuarded answer port packet (guarded before) (guarded after) room left
@@ -52,13 +52,13 @@ pub record ServesLive (answer : Answer) (port : ℕ) (packet : Cargo) (before af
   pub held : after.node.held ≡ before.node.held
 
 -- the line ended a packet, and this came of it
-pub record ServesLine (line : List ℕ) (taken : Taken) (before after : LiveNodeValue) : Type 0 where
+pub record ServesLine (line : List ℕ) (taken : LineResult) (before after : LiveNodeValue) : Type 0 where
   pub packet : Cargo
   pub held : List (List ℕ)
   pub fed : IsFed line before.node.held held (Some (taken.port, packet))
   pub step : ServesLive taken.answer taken.port packet (with_node before (with_held before.node held)) after
 
 -- what came of a line: no packet yet, or what came of a packet
-abbrev pub TakesLine : List ℕ → Option Taken → (before after : LiveNodeValue) → Type 0
-TakesLine line None before after = HoldsLine line before.node after.node × KeepsGuard before after
-TakesLine line (Some taken) before after = ServesLine line taken before after
+abbrev pub TakesPacketLine : List ℕ → Option LineResult → (before after : LiveNodeValue) → Type 0
+TakesPacketLine line None before after = HoldsLine line before.node after.node × KeepsGuard before after
+TakesPacketLine line (Some taken) before after = ServesLine line taken before after

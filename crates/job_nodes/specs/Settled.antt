@@ -4,5 +4,5 @@ use Rattle.sched.specs.declared.event.Event.{Event}
 use Rattle.sched.specs.declared.event.Event.TheVariants.{Effect, Publish}
 
 -- the event ends a command of the port
-abbrev pub IsEnd : (port : ℕ) → Event → Type 0
-IsEnd port event = (event ≡ Effect port) ⊎ (event ≡ Publish port)
+abbrev pub IsCommandEnd : (port : ℕ) → Event → Type 0
+IsCommandEnd port event = (event ≡ Effect port) ⊎ (event ≡ Publish port)

@@ -24,7 +24,7 @@ outcome_line Refused = codes "refused" ++ 10 ∷ []
 outcome_line (Discarded discard) = codes "discard " ++ decimal (discard_code discard) ++ 10 ∷ []
 outcome_line (Answered status reply) = status_line (codes "answered") status reply
 outcome_line (Taken generation) = codes "taken " ++ decimal generation ++ 10 ∷ []
-outcome_line (Told told) = codes "told " ++ decimal told ++ 10 ∷ []
+outcome_line (Told reported) = codes "told " ++ decimal reported ++ 10 ∷ []
 outcome_line (Done status reply loaded) = status_line (codes "done") status reply
 
 -- the lines of what events come to, in order

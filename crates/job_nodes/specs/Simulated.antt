@@ -4,16 +4,16 @@ use Rattle.std.specs.Io.KnownBytes.{Appends}
 use Rattle.spw.specs.Line.{lines_of}
 use Rattle.sched.specs.History.{History, Start, history_from}
 use Rattle.sched.specs.Looking.{Node}
-use Rattle.sched.specs.Worlds.{GoesOn, IsLawfulWorld, WorldValue}
+use Rattle.sched.specs.Worlds.{GoesOnLawfully, IsLawfulWorld, WorldValue}
 use Rattle.sched.specs.declared.event.Event.{Event}
 use Rattle.sched.specs.declared.event.Outcome.{Outcome}
 use Rattle.job_config.specs.declared.node_lines.NodeLines.{NodeLines}
-use Rattle.job_parts.specs.Files.{Reads}
+use Rattle.job_parts.specs.Files.{ReadsFile}
 use Rattle.job_parts.specs.Stops.{fault_at}
 use Rattle.job_parts.specs.Turns.{SeesEnd}
 use Rattle.job_parts.specs.declared.faults.Fault.{Fault}
-use Rattle.job_parts.specs.declared.status.Status.{Status}
-use Rattle.job_parts.specs.declared.status.Status.TheVariants.{Done, Failed, Misused}
+use Rattle.job_parts.specs.declared.status.ExitStatus.{ExitStatus}
+use Rattle.job_parts.specs.declared.status.ExitStatus.TheVariants.{Done, Failed, Misused}
 use Rattle.job_parts.specs.declared.stops.LineEnd.{LineEnd}
 use Rattle.job_parts.specs.declared.stops.LineEnd.TheVariants.{Bad, NoMemory}
 use Rattle.job_nodes.specs.Beginning.{IsScheduled, IsUnscheduled, RefusesContents}
@@ -63,11 +63,11 @@ pub record IsCutShort (n : Node) (h : History) (lines : List (List ℕ)) (old ne
 -- ---- a line
 
 -- the line writes an event at a port of the world, which goes on by it, and the line of its outcome was printed
-pub record Steps (line : List ℕ) (before after : WorldValue) (old new : Option (List ℕ)) : Type 0 where
+pub record StepsEventLine (line : List ℕ) (before after : WorldValue) (old new : Option (List ℕ)) : Type 0 where
   pub event : Event
   pub outcome : Outcome
   pub written : IsEventOf (length before.ports) line event
-  pub goes_on : GoesOn event outcome before after
+  pub goes_on : GoesOnLawfully event outcome before after
   pub printed : Appends old new (outcome_line outcome)
 
 -- the line is not simulated, and nothing was printed
@@ -76,7 +76,7 @@ IsStuck line before after old new end = IsNotStepped (length before.ports) line 
 
 -- ---- the whole job
 
-module _ {S : Type 0} (reads : Reads S) (args : NodeLines) where
+module _ {S : Type 0} (reads : ReadsFile S) (args : NodeLines) where
   -- each line of the file was simulated on that node, from its beginning on
   pub record SimulatesFile (before after : S) (old new : Option (List ℕ)) : Type 0 where
     pub text : List ℕ
@@ -86,7 +86,7 @@ module _ {S : Type 0} (reads : Reads S) (args : NodeLines) where
     pub all : SimulatesFrom node Start (lines_of text) left old new
 
   -- what `sim` reads and prints if no fault ends it, with its exit status: 2 if a bank begins with bytes
-  abbrev pub DoesSim : (before after : S) → (old new : Option (List ℕ)) → Status → Type 0
+  abbrev pub DoesSim : (before after : S) → (old new : Option (List ℕ)) → ExitStatus → Type 0
   DoesSim before after old new Done = SimulatesFile before after old new
   DoesSim before after old new Failed = ⊥
   DoesSim before after old new Misused = RefusesContents reads args before after old new

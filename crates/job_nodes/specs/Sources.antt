@@ -7,16 +7,16 @@ use Rattle.job_config.specs.OwnNodes.{OwnNodeValue}
 use Rattle.job_config.specs.Reads.{ReadsNoNode, ReadsNode}
 use Rattle.job_config.specs.declared.sources.NodeSource.{NodeSource}
 use Rattle.job_config.specs.declared.sources.NodeSource.TheVariants.{File, Words}
-use Rattle.job_parts.specs.Files.{Reads}
+use Rattle.job_parts.specs.Files.{ReadsFile}
 use Rattle.job_parts.specs.Given.{HoldsNoProgram, HoldsProgram}
 use Rattle.job_parts.specs.Options.{image_name}
 use Rattle.job_parts.specs.declared.faults.Fault.{Fault}
 use Rattle.job_parts.specs.declared.faults.Fault.TheVariants.{NoMemory}
 use Rattle.job_parts.specs.declared.options.NodeWords.{NodeWords}
-use Rattle.job_nodes.specs.JobNode.{IsFresh, JobNodeValue}
+use Rattle.job_nodes.specs.JobNode.{IsFreshJobNode, JobNodeValue}
 use Rattle.job_nodes.specs.Making.{IsNodeOf}
 
-module _ {S : Type 0} (reads : Reads S) where
+module _ {S : Type 0} (reads : ReadsFile S) where
   -- the node is a fresh one of these words. The program that its files give judges its commands; it is justified on the
   -- node, and so safe
   pub record IsPlainNode (words : NodeWords) (before : S) (node : JobNodeValue) (after : S) : Type 0 where
@@ -25,7 +25,7 @@ module _ {S : Type 0} (reads : Reads S) where
     pub sizes_are : program.sizes ≡ words.sizes
     pub justified : IsJustified program.program words.sizes
     pub safe : IsSafe program.program words.sizes
-    pub fresh : IsFresh words.ports program node
+    pub fresh : IsFreshJobNode words.ports program node
 
   -- the program was read, but memory was refused to the node
   pub record IsPlainUnmade (words : NodeWords) (before after : S) (fault : Fault) : Type 0 where

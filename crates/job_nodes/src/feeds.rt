@@ -51,7 +51,7 @@ impl Feeds {
     /// memory was refused. If it was refused to a packet that ends, the port still holds its bytes.
     pub fn take_line(&mut self, alloc: Global, line: &str) -> Result<Option<(u8, Packet)>, BadLine>
         ensures fed { IfOk result (IsFed line.now self.old self.new) }
-        ensures own_port { IfOk result (λ came. IfSome came (λ own. own.0 < length self.old)) }
+        ensures own_port { IfOk result (λ received. IfSome received (λ own. own.0 < length self.old)) }
         ensures refused { IfErr result (IsNotFed line.now self.old self.new) }
         ensures ports { length self.new ≡ length self.old }
     {

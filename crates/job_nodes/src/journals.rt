@@ -1,7 +1,7 @@
 //! The journals of a node of one thread.
 
 ghost use Rattle.std.specs.Prelude.{◌≡◌, ◌<◌, length, slice_get};
-ghost use Rattle.job_nodes.specs.JobNode.{first_of, is_full, journal_of};
+ghost use Rattle.job_nodes.specs.JobNode.{first_address_of, is_full, journal_of};
 
 use bank::Entry;
 use single_node::SingleNode;
@@ -9,7 +9,7 @@ use single_node::SingleNode;
 /// The address of the first byte of a bank. The condition is a number below [`SingleNode::banks`].
 pub fn first(node: &SingleNode, bank: u8) -> u32
     requires { bank < length node.now.banks }
-    ensures { result ≡ first_of (slice_get node.now.banks bank) }
+    ensures { result ≡ first_address_of (slice_get node.now.banks bank) }
 {
     node.bank(bank).range().0
 }

@@ -1,7 +1,7 @@
 //! The job `judge`.
 
 ghost use Rattle.std.specs.Prelude.{◌≡◌, IfErr, IfOk, OnOk, false, string_bytes};
-ghost use Rattle.job_nodes.specs.JobNode.{RefusesLine, TakesLine};
+ghost use Rattle.job_nodes.specs.JobNode.{RefusesLine, TakesPacketLine};
 ghost use Rattle.job_parts.specs.Matched.{app_of, fields_of};
 ghost use Rattle.job_parts.specs.Printed.{Prints};
 ghost use Rattle.job_parts.specs.Statuses.{IsDoneWith};
@@ -19,8 +19,8 @@ use job_parts::bad_lines::BadLine;
 use job_parts::faults::Fault;
 use job_parts::programs::text_in;
 use job_parts::replies::print_reply;
-use job_parts::status::Status;
-use job_parts::stops::{Halt, LineHalt};
+use job_parts::status::ExitStatus;
+use job_parts::stops::{JobStop, LineStop};
 use job_parts::storage::Files;
 use job_parts::turns::{TakesLines, take_lines};
 use node_parts::{Served, Stop};
@@ -119,7 +119,7 @@ impl Judging {
     /// Takes a line, and serves the packet that it ends. Returns its port and what became of it, or `None` if the line
     /// ends none. It serves nothing if the line has a fault.
     fn take_line(&mut self, alloc: Global, line: &str) -> Result<Option<(u8, Served)>, BadLine>
-        ensures taken { IfOk result (λ came. TakesLine line.now came self.old self.new) }
+        ensures taken { IfOk result (λ received. TakesPacketLine line.now received self.old self.new) }
         ensures refused { IfErr result (λ fault. RefusesLine line.now fault self.old self.new) }
     {
         self.taken = self.taken.saturating_add(1);
@@ -139,7 +139,7 @@ impl TakesLines for Judging {
     ghost stops = { IsBadLine };
 
     /// Takes one line, judges the packet that it ends, and prints what comes of it.
-    fn take<W: Write>(&mut self, alloc: Global, line: &str, out: &mut W) -> Result<(), LineHalt> {
+    fn take<W: Write>(&mut self, alloc: Global, line: &str, out: &mut W) -> Result<(), LineStop> {
         let Some((port, served)) = self.take_line(alloc, line)? else {
             return Ok(());
         };
@@ -180,7 +180,7 @@ pub fn judge_file<'a, F: Files, W: Write>(
     files: &mut F,
     out: &mut W,
     full: &mut Option<FullJournals>,
-) -> Result<Status, Halt<'a>>
+) -> Result<ExitStatus, JobStop<'a>>
     ensures done { IfOk result (IsDoneWith (JudgesFile F.reads args.now files.old files.new
         (W.contents out.old) (W.contents out.new))) }
     ensures stops { IfErr result (StopsBy (IsNotJudged F.reads args.now files.old files.new
@@ -190,5 +190,5 @@ pub fn judge_file<'a, F: Files, W: Write>(
     let taken = take_lines(alloc, &mut judging, text.as_str(), out);
     *full = Some(judging.full);
     taken?;
-    Ok(Status::Done)
+    Ok(ExitStatus::Done)
 }

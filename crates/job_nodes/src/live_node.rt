@@ -1,8 +1,8 @@
 //! The node of a talk, whose programs may be scrubbed.
 
 ghost use Rattle.std.specs.Prelude.{◌≡◌, ◌<◌, ◌≤◌, IfErr, IfOk, IfSome, length, slice_get, true};
-ghost use Rattle.job_nodes.specs.JobNode.{FeedsLine, HandsOut, RefusesLine, SetsBytes, alone, journal_of};
-ghost use Rattle.job_nodes.specs.LiveNodes.{IsLive, KeepsGuard, ServesLive, TakesLine};
+ghost use Rattle.job_nodes.specs.JobNode.{FeedsLine, HandsOut, RefusesLine, SetsNodeBytes, alone, journal_of};
+ghost use Rattle.job_nodes.specs.LiveNodes.{IsLive, KeepsGuard, ServesLive, TakesPacketLine};
 ghost use Rattle.scrub.specs.Guarded.{is_damaged};
 ghost use Rattle.single_node.specs.Nodes.{covers_in};
 
@@ -10,7 +10,7 @@ use crate::feeds::Feeds;
 use crate::node::JobNode;
 use job_parts::bad_lines::BadLine;
 use rmap::MAX_REPLY;
-use scrub::{Answer, GuardedNode};
+use scrub::{ServedAnswer, GuardedNode};
 use single_node::SingleNode;
 use spw::Packet;
 use std::alloc::Global;
@@ -41,11 +41,11 @@ impl Model for LiveNode {
 
 /// What came of a packet that ended with a line.
 #[derive(Clone, Copy, Debug, PartialEq, Eq)]
-pub struct Taken {
+pub struct LineResult {
     /// The port at which the packet came in.
     pub port: u8,
     /// What became of the packet, and what a scrub before it found, if one was due.
-    pub answer: Answer,
+    pub answer: ServedAnswer,
 }
 
 impl LiveNode {
@@ -88,7 +88,7 @@ impl LiveNode {
 
     /// What becomes of a packet that comes in at a port, and what a scrub before it found, if one was due. The reply
     /// that is due is then [`LiveNode::reply`]. The condition is a port of the node.
-    pub fn serve(&mut self, alloc: Global, port: u8, packet: Packet) -> Answer
+    pub fn serve(&mut self, alloc: Global, port: u8, packet: Packet) -> ServedAnswer
         requires { port < length self.old.node.passes }
         ensures { ServesLive result port packet self.old self.new }
     {
@@ -104,8 +104,8 @@ impl LiveNode {
     /// # Errors
     ///
     /// Those of [`Feeds::take_line`]. Nothing is then served.
-    pub fn take_line(&mut self, alloc: Global, line: &str) -> Result<Option<Taken>, BadLine>
-        ensures taken { IfOk result (λ taken. TakesLine line.now taken self.old self.new) }
+    pub fn take_line(&mut self, alloc: Global, line: &str) -> Result<Option<LineResult>, BadLine>
+        ensures taken { IfOk result (λ taken. TakesPacketLine line.now taken self.old self.new) }
         ensures refused { IfErr result (λ fault. RefusesLine line.now fault self.old.node self.new.node) }
         ensures kept { IfErr result (λ _. KeepsGuard self.old self.new) }
     {
@@ -113,20 +113,20 @@ impl LiveNode {
             return Ok(None);
         };
         let answer = self.serve(alloc, port, packet);
-        Ok(Some(Taken { port, answer }))
+        Ok(Some(LineResult { port, answer }))
     }
 
     /// Takes a line, and serves nothing. Returns the packet that it ends, and its port, or `None` if the line ends
     /// none.
     fn feed_line(&mut self, alloc: Global, line: &str) -> Result<Option<(u8, Packet)>, BadLine>
-        ensures fed { IfOk result (λ came. FeedsLine line.now came self.old.node self.new.node) }
+        ensures fed { IfOk result (λ received. FeedsLine line.now received self.old.node self.new.node) }
         ensures port { IfOk result
-            (λ came. IfSome came (λ own. own.0 < length self.new.node.passes)) }
+            (λ received. IfSome received (λ own. own.0 < length self.new.node.passes)) }
         ensures refused { IfErr result (λ fault. RefusesLine line.now fault self.old.node self.new.node) }
         ensures kept { KeepsGuard self.old self.new }
     {
-        let came = self.feeds.take_line(alloc, line)?;
-        Ok(came)
+        let received = self.feeds.take_line(alloc, line)?;
+        Ok(received)
     }
 
     /// The reply to the last packet that was served; no bytes if none is due.
@@ -155,7 +155,7 @@ impl LiveNode {
     /// memory that is then there. The condition is that the bytes are in the bank.
     pub fn set(&mut self, bank: u8, address: u32, bytes: &[u8])
         requires { covers_in (slice_get self.old.node.banks bank) address (length bytes.now) ≡ true }
-        ensures set { SetsBytes bank address bytes.now self.old.node self.new.node
+        ensures set { SetsNodeBytes bank address bytes.now self.old.node self.new.node
             (journal_of (slice_get self.old.node.banks bank)) }
         ensures guard { KeepsGuard self.old self.new }
     {

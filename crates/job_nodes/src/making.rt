@@ -2,8 +2,8 @@
 
 ghost use Rattle.std.specs.Prelude.{◌≡◌, ◌<◌, ◌≤◌, ◌+◌, [], ℕ, All, IfOk, OnOk, length, slice_index_or, true};
 ghost use Rattle.job_config.specs.OwnNodes.{IsPublish, plain_node};
-ghost use Rattle.job_nodes.specs.JobNode.{IsFresh};
-ghost use Rattle.job_nodes.specs.Making.{Fills, FillsOne, IsFilled, IsNodeOf, with_publishes};
+ghost use Rattle.job_nodes.specs.JobNode.{IsFreshJobNode};
+ghost use Rattle.job_nodes.specs.Making.{Fills, FillsOne, AreBanksFilled, IsNodeOf, with_publishes};
 ghost use Rattle.node_programs.specs.Published.{sizes_of};
 
 use crate::node::JobNode;
@@ -52,7 +52,7 @@ fn fill(node: &mut JobNode, contents: &[Contents])
 /// ports. The condition is a program that was accepted for its maps.
 fn filled(alloc: Global, own: &OwnNode, program: Accepted) -> Result<JobNode, AllocError>
     requires { program.sizes ≡ own.now.sizes }
-    ensures { IfOk result (IsFilled own.now program) }
+    ensures { IfOk result (AreBanksFilled own.now program) }
 {
     let mut node = JobNode::fresh(alloc, &own.config(), program)?;
     fill(&mut node, own.contents());
@@ -90,7 +90,7 @@ impl JobNode {
         ensures node { IfOk result (IsNodeOf own.now program) }
         // If no file says anything of it, it is the node of the words of a command line.
         ensures plain { (ports : ℕ) → own.now ≡ plain_node ports program.sizes
-            → IfOk result (IsFresh ports program) }
+            → IfOk result (IsFreshJobNode ports program) }
     {
         let mut node = filled(alloc, own, program)?;
         publish_all(&mut node, own.publishes())?;
@@ -104,7 +104,7 @@ impl JobNode {
     ///
     /// `AllocError` if memory was refused, or if the node refuses this number of ports.
     pub fn new(alloc: Global, ports: u8, program: Accepted) -> Result<JobNode, AllocError>
-        ensures { IfOk result (IsFresh ports program) }
+        ensures { IfOk result (IsFreshJobNode ports program) }
     {
         let own = OwnNode::plain(alloc, ports, program.sizes())?;
         JobNode::of(alloc, &own, program)

@@ -2,7 +2,7 @@
 
 ghost use Rattle.std.specs.Prelude.{◌≡◌, ◌≤◌, ◌<◌, ◌+◌, ◌↔◌, IfErr, IfOk, IfSome, IsSome, length, slice_get, true, OnOk};
 ghost use Rattle.job_config.specs.OwnNodes.{IsPublish};
-ghost use Rattle.job_nodes.specs.JobNode.{FeedsLine, IsConfig, IsFreshOf, IsJobNode, RefusesLine, Serves, SetsBytes, alone, first_of, is_full, journal_of, with_publish};
+ghost use Rattle.job_nodes.specs.JobNode.{FeedsLine, IsConfig, IsFreshOf, IsJobNode, RefusesLine, ServesOfPorts, SetsNodeBytes, alone, first_address_of, is_full, journal_of, with_node_publish};
 ghost use Rattle.node_programs.specs.Published.{sizes_of};
 ghost use Rattle.single_node.specs.Nodes.{covers_in};
 
@@ -87,7 +87,7 @@ impl JobNode {
     /// memory only if it loads. The condition is a port below [`JobNode::ports`].
     pub fn serve(&mut self, alloc: Global, port: u8, packet: Packet) -> Served
         requires { port < length self.old.passes }
-        ensures { Serves result port packet self.old self.new }
+        ensures { ServesOfPorts result port packet self.old self.new }
     {
         let node = &mut self.node;
         let reply = &mut self.reply;
@@ -101,12 +101,12 @@ impl JobNode {
         alloc: Global,
         line: &str,
     ) -> Result<Option<(u8, Packet)>, BadLine>
-        ensures fed { IfOk result (λ came. FeedsLine line.now came self.old self.new) }
-        ensures port { IfOk result (λ came. IfSome came (λ own. own.0 < length self.new.passes)) }
+        ensures fed { IfOk result (λ received. FeedsLine line.now received self.old self.new) }
+        ensures port { IfOk result (λ received. IfSome received (λ own. own.0 < length self.new.passes)) }
         ensures refused { IfErr result (λ fault. RefusesLine line.now fault self.old self.new) }
     {
-        let came = self.feeds.take_line(alloc, line)?;
-        Ok(came)
+        let received = self.feeds.take_line(alloc, line)?;
+        Ok(received)
     }
 
     /// The reply to the last packet that was served; no bytes if none is due.
@@ -128,7 +128,7 @@ impl JobNode {
     /// The address of the first byte of a bank. The condition is a number below [`JobNode::banks`].
     pub fn first(&self, bank: u8) -> u32
         requires { bank < length self.now.banks }
-        ensures { result ≡ first_of (slice_get self.now.banks bank) }
+        ensures { result ≡ first_address_of (slice_get self.now.banks bank) }
     {
         first(&self.node, bank)
     }
@@ -155,7 +155,7 @@ impl JobNode {
     /// in the bank ([`JobNode::covers`]).
     pub fn set(&mut self, bank: u8, address: u32, bytes: &[u8])
         requires { covers_in (slice_get self.old.banks bank) address (length bytes.now) ≡ true }
-        ensures { SetsBytes bank address bytes.now self.old self.new
+        ensures { SetsNodeBytes bank address bytes.now self.old self.new
             (journal_of (slice_get self.old.banks bank)) }
     {
         let room = self.node.room(bank);
@@ -181,7 +181,7 @@ impl JobNode {
     pub(crate) fn publish(&mut self, slot: u8, program: Accepted) -> Result<(), AllocError>
         requires publish { IsPublish (sizes_of self.old.programs) (slot, program) }
         requires few { length self.old.programs < 4294967296 }
-        ensures { OnOk result (self.new ≡ with_publish self.old slot program) }
+        ensures { OnOk result (self.new ≡ with_node_publish self.old slot program) }
     {
         // Only memory can be refused to it: a generation is left.
         match self.node.publish(slot, program) {

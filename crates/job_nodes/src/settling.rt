@@ -2,7 +2,7 @@
 
 ghost use Rattle.std.specs.Prelude.{◌≡◌};
 ghost use Rattle.sched.specs.Answers.{answering};
-ghost use Rattle.job_nodes.specs.Settled.{IsEnd};
+ghost use Rattle.job_nodes.specs.Settled.{IsCommandEnd};
 
 use machine::Helper;
 use rmap::Place;
@@ -21,7 +21,7 @@ pub fn answered_by(helper: Helper, port: u8) -> Event
 
 /// The event that ends the command at a port, if its bytes are there.
 pub fn ending(port: u8, place: Place) -> Event
-    ensures { IsEnd port result }
+    ensures { IsCommandEnd port result }
 {
     match place {
         Place::Bank(_) | Place::Staging | Place::LoadResult => Event::Effect(port),

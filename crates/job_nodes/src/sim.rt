@@ -6,7 +6,7 @@ ghost use Rattle.job_parts.specs.Printed.{Prints};
 ghost use Rattle.job_parts.specs.Stops.{StopsBy};
 ghost use Rattle.job_nodes.specs.EventLines.{IsBadEvent, IsEventOf};
 ghost use Rattle.job_nodes.specs.SimJob.{outcome_line, sim_app, status_line};
-ghost use Rattle.job_nodes.specs.Simulated.{IsNotSimulated, IsStuck, DoesSim, Steps};
+ghost use Rattle.job_nodes.specs.Simulated.{IsNotSimulated, IsStuck, DoesSim, StepsEventLine};
 
 use crate::events::read_event;
 use crate::sources::lines_and_world;
@@ -14,8 +14,8 @@ use clap::Command;
 use job_config::node_lines::{NodeLines, node_lines_command};
 use job_parts::bad_lines::BadLine;
 use job_parts::replies::print_bytes;
-use job_parts::status::Status;
-use job_parts::stops::{Halt, LineEnd, LineHalt};
+use job_parts::status::ExitStatus;
+use job_parts::stops::{JobStop, LineEnd, LineStop};
 use job_parts::storage::Files;
 use job_parts::turns::{TakesLines, take_lines};
 use sched::{Event, Outcome, World, step};
@@ -65,7 +65,7 @@ fn print_outcome<W: Write>(out: &mut W, outcome: &Outcome) -> io::Result<()>
         }
         Outcome::Answered(status, reply) => print_status(out, "answered", *status, reply.bytes()),
         Outcome::Taken(generation) => writeln!(out, "taken {generation}"),
-        Outcome::Told(told) => writeln!(out, "told {told}"),
+        Outcome::Told(reported) => writeln!(out, "told {reported}"),
         Outcome::Done(status, reply, _) => print_status(out, "done", *status, reply.bytes()),
     }
 }
@@ -97,16 +97,16 @@ impl Model for Simulating {
 }
 
 impl TakesLines for Simulating {
-    ghost takes = { Steps };
+    ghost takes = { StepsEventLine };
 
     ghost stops = { IsStuck };
 
     /// Takes one line: the world steps by its event, and what that comes to is printed.
-    fn take<W: Write>(&mut self, alloc: Global, line: &str, out: &mut W) -> Result<(), LineHalt> {
+    fn take<W: Write>(&mut self, alloc: Global, line: &str, out: &mut W) -> Result<(), LineStop> {
         let event = event_at(alloc, self.world.ports(), line)?;
         // Only memory can be refused to it: the port of the event is one of the world.
         let Ok(outcome) = step(alloc, &mut self.world, event) else {
-            return Err(LineHalt::Ended(LineEnd::NoMemory));
+            return Err(LineStop::Ended(LineEnd::NoMemory));
         };
         Ok(print_outcome(out, &outcome)?)
     }
@@ -125,7 +125,7 @@ pub fn sim_file<'a, F: Files, W: Write>(
     args: &'a NodeLines,
     files: &mut F,
     out: &mut W,
-) -> Result<Status, Halt<'a>>
+) -> Result<ExitStatus, JobStop<'a>>
     ensures done { IfOk result (DoesSim F.reads args.now files.old files.new
         (W.contents out.old) (W.contents out.new)) }
     ensures stops { IfErr result (StopsBy (IsNotSimulated F.reads args.now files.old files.new
@@ -133,9 +133,9 @@ pub fn sim_file<'a, F: Files, W: Write>(
 {
     let (text, made) = lines_and_world(alloc, args, files)?;
     let Some(world) = made else {
-        return Ok(Status::Misused);
+        return Ok(ExitStatus::Misused);
     };
     let mut simulating = Simulating { world };
     take_lines(alloc, &mut simulating, text.as_str(), out)?;
-    Ok(Status::Done)
+    Ok(ExitStatus::Done)
 }

@@ -2,7 +2,7 @@
 
 ghost use Rattle.std.specs.Prelude.{IfErr, IfOk, MatchOption, string_bytes};
 ghost use Rattle.sched.specs.Looking.{Node};
-ghost use Rattle.job_nodes.specs.Beginning.{BeginsWithBytes, GivesNoWorld, GivesSchedule, HasContents, HoldsWorld, IsBegun, IsFileBeginning, IsNoFileWorld, IsPlainBeginning, IsUnscheduled};
+ghost use Rattle.job_nodes.specs.Beginning.{BeginsWithBytes, GivesNoWorld, GivesSchedule, HasContents, HoldsWorld, IsBegunWorld, IsFileBeginning, IsNoFileWorld, IsPlainBeginning, IsUnscheduled};
 ghost use Rattle.job_nodes.specs.Sources.{HoldsNoNode, HoldsNode, IsFileNode, IsNoFileNode, IsNoPlainNode, IsPlainNode};
 
 use crate::node::{JobNode, node_config};
@@ -80,7 +80,7 @@ fn plain_world<'a, F: Files>(
     words: &'a NodeWords,
     files: &mut F,
 ) -> Result<World, Fault<'a>>
-    ensures world { IfOk result (IsBegun (λ (n : Node).
+    ensures world { IfOk result (IsBegunWorld (λ (n : Node).
         IsPlainBeginning F.reads words.now files.old n files.new)) }
     ensures refused { IfErr result (IsNoPlainNode F.reads words.now files.old files.new) }
 {
@@ -103,7 +103,7 @@ fn file_world<'a, F: Files>(
 ) -> Result<Option<World>, Fault<'a>>
     ensures world { IfOk result (λ made. MatchOption made
         (BeginsWithBytes F.reads name.now files.old files.new)
-        (IsBegun (λ (n : Node).
+        (IsBegunWorld (λ (n : Node).
         IsFileBeginning F.reads name.now files.old n files.new))) }
     ensures none { IfErr result (IsNoFileWorld F.reads name.now files.old files.new) }
 {

@@ -9,7 +9,7 @@ use Rattle.std.specs.Str.Parse.{IsNumeral, ParsesUnsigned, digits_value}
 use Rattle.hex.specs.Hex.{decode_of}
 use Rattle.hex.specs.declared.error.FromHexError.{FromHexError}
 use Rattle.hex.specs.declared.error.FromHexError.TheVariants.{InvalidHexCharacter, OddLength, InvalidStringLength, OutOfMemory}
-use Rattle.job_packets.specs.HexWords.{Has, WritesBytes, WritesDigits, fault_of_hex}
+use Rattle.job_packets.specs.HexWords.{Has, WritesBytes, WritesDigits, fault_of_hex_word}
 use Rattle.job_packets.specs.Slips.{IsWordFault}
 use Rattle.job_packets.specs.declared.slips.PacketWord.{PacketWord}
 
@@ -59,7 +59,7 @@ no_bytes word refused other fails (bytes, inl dash) = other dash.0
 no_bytes word refused other fails (bytes, inr decoded) = let written = decoded.1 in cc (fails, written)
 
 pub bytes_fault : (word : List ℕ) (whose : PacketWord) (refused : FromHexError) → word ≢ codes "-" → (refused ≡ OutOfMemory) ⊎ (decode_of word ≡ Err refused)
-    → IsWordFault (Has (WritesBytes word)) (fault_of_hex whose refused)
+    → IsWordFault (Has (WritesBytes word)) (fault_of_hex_word whose refused)
 bytes_fault word whose (InvalidHexCharacter c i) other (inl none) = cc
 bytes_fault word whose (InvalidHexCharacter c i) other (inr fails) = inr (tt, no_bytes word (InvalidHexCharacter c i) other fails)
 bytes_fault word whose OddLength other (inl none) = cc

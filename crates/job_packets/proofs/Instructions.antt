@@ -7,7 +7,7 @@ use Rattle.initiator.specs.declared.requests.Request.{Request}
 use Rattle.initiator.specs.declared.write.CommandFields.{CommandFields}
 use Rattle.hex.specs.Hex.{encode_upper}
 use Rattle.rmap.specs.Command.{bytes_of}
-use Rattle.job_packets.specs.Requests.{fields_with, instruction_with, line_of, marked_line}
+use Rattle.job_packets.specs.Requests.{fields_with, instruction_with, request_line_of, marked_line}
 use Rattle.job_packets.specs.declared.packet_options.HeaderWords.{HeaderWords}
 
 -- an instruction is its packet type, its code and its words
@@ -30,8 +30,8 @@ joined port digits = simp append_assoc
 -- the line of these digits is that of the request, if they are those of its command
 pub line_is : (h : HeaderWords) (r : Request) (f : CommandFields) (body bytes digits : List ℕ) → digits ≡ encode_upper bytes
     → bytes ≡ bytes_of (command_with f body) → command_with f body ≡ command_with (fields_with h r) body
-    → marked_line h.port digits ≡ line_of h r body
-unfolding line_of
+    → marked_line h.port digits ≡ request_line_of h r body
+unfolding request_line_of
 line_is h r f body bytes digits upper are same =
     joined (decimal h.port) digits
     ∙ ap (λ (d : List ℕ). (decimal h.port ++ 32 ∷ d ++ 32 ∷ 69 ∷ 79 ∷ 80 ∷ []) ++ 10 ∷ []) (upper ∙ ap (λ (b : List ℕ). encode_upper b) (are ∙ ap bytes_of same))

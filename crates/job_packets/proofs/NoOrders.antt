@@ -2,19 +2,19 @@
 use Rattle.std.proofs.Common.{◌≡◌, ◌≢◌, ◌∷◌, ℕ, List, Some, Option, inl, inr, get_or, string_bytes, codes, arith, rules}
 use Rattle.clap.specs.Walk.{Row, first_of}
 use Rattle.job_packets.specs.HexWords.{Has, WritesBytes}
-use Rattle.job_packets.specs.Orders.{Gives, HasKind, HasLoad, HasWrite, NamesOrder, WritesSource}
+use Rattle.job_packets.specs.Orders.{GivesWord, HasKind, HasLoad, HasWrite, NamesOrder, WritesSource}
 use Rattle.job_packets.specs.PacketJob.{NamesPacket, RefusesPacket}
 use Rattle.job_packets.specs.PacketOptions.{GivesHeader}
 use Rattle.job_packets.specs.Slips.{IsWordFault, usage_fault_of}
 use Rattle.job_packets.specs.Slots.{WritesSlots}
 use Rattle.job_packets.specs.declared.orders.Order.{Order}
 use Rattle.job_packets.specs.declared.orders.Order.TheVariants.{Read, Write, Rmw, Load}
-use Rattle.job_packets.specs.declared.orders.Source.{Source}
-use Rattle.job_packets.specs.declared.orders.Source.TheVariants.{Bytes, File}
+use Rattle.job_packets.specs.declared.orders.DataSource.{DataSource}
+use Rattle.job_packets.specs.declared.orders.DataSource.TheVariants.{Bytes, File}
 use Rattle.job_packets.specs.declared.slips.PacketFault.{PacketFault}
 use Rattle.job_packets.specs.declared.slips.PacketFault.TheVariants.{Words, Memory}
 
-no_source : (word : List ℕ) → ((rest : List ℕ) → word ≢ 64 ∷ rest) → ¬ Has (WritesBytes word) → (source : Source) → WritesSource word source → ⊥
+no_source : (word : List ℕ) → ((rest : List ℕ) → word ≢ 64 ∷ rest) → ¬ Has (WritesBytes word) → (source : DataSource) → WritesSource word source → ⊥
 no_source word other none (Bytes bytes) written = none (bytes.items, written)
 no_source word other none (File name) written = other (string_bytes name) written
 
@@ -25,13 +25,13 @@ source_fault word fault other (inl memory) = inl memory
 source_fault word fault other (inr bad) = inr (bad.0, λ has. no_source word other bad.1 has.0 has.1)
 
 -- without data there is no write
-pub write_fault : (rows : List Row) (fault : PacketFault) → IsWordFault (Has (Gives WritesSource (first_of (codes "data") rows))) fault
+pub write_fault : (rows : List Row) (fault : PacketFault) → IsWordFault (Has (GivesWord WritesSource (first_of (codes "data") rows))) fault
     → IsWordFault (HasWrite rows) fault
 write_fault rows fault (inl memory) = inl memory
 write_fault rows fault (inr bad) = inr (bad.0, λ has. bad.1 (has.2, has.3.bytes))
 
 -- without slots there are no loads
-pub load_fault : (rows : List Row) (fault : PacketFault) → IsWordFault (Has (Gives WritesSlots (first_of (codes "slot") rows))) fault
+pub load_fault : (rows : List Row) (fault : PacketFault) → IsWordFault (Has (GivesWord WritesSlots (first_of (codes "slot") rows))) fault
     → IsWordFault (HasLoad rows) fault
 load_fault rows fault (inl memory) = inl memory
 load_fault rows fault (inr bad) = inr (bad.0, λ has. bad.1 (has.1, has.2.list))

@@ -24,16 +24,16 @@ pub record WritesPrefixed (most : ℕ) (word : List ℕ) (n : ℕ) : Type 0 wher
   pub written : WritesDigits most digits n
 
 -- at most `most` hexadecimal digits, with or without `0x` before them, write the number
-abbrev pub WritesHex : (most : ℕ) → List ℕ → ℕ → Type 0
-WritesHex most word n = WritesDigits most word n ⊎ WritesPrefixed most word n
+abbrev pub WritesHexWord : (most : ℕ) → List ℕ → ℕ → Type 0
+WritesHexWord most word n = WritesDigits most word n ⊎ WritesPrefixed most word n
 
 -- pairs of hexadecimal digits, one at least, write the bytes, and `-` writes none
 abbrev pub WritesBytes : List ℕ → List ℕ → Type 0
 WritesBytes word bytes = ((word ≡ codes "-") × (bytes ≡ [])) ⊎ ((word ≢ []) × (decode_of word ≡ Ok bytes))
 
 -- a word whose text does not decode writes no bytes, unless memory was refused
-abbrev pub fault_of_hex : PacketWord → FromHexError → PacketFault
-fault_of_hex word (InvalidHexCharacter c index) = bad_word word
-fault_of_hex word OddLength = bad_word word
-fault_of_hex word InvalidStringLength = bad_word word
-fault_of_hex word OutOfMemory = Memory
+abbrev pub fault_of_hex_word : PacketWord → FromHexError → PacketFault
+fault_of_hex_word word (InvalidHexCharacter c index) = bad_word word
+fault_of_hex_word word OddLength = bad_word word
+fault_of_hex_word word InvalidStringLength = bad_word word
+fault_of_hex_word word OutOfMemory = Memory

@@ -8,17 +8,17 @@ use Rattle.rmap.specs.declared.boot.TheConstants.{STAGING_SIZE}
 use Rattle.initiator.specs.declared.codes.TheConstants.{RMW_CODE}
 use Rattle.initiator.specs.declared.requests.Request.{Request}
 use Rattle.initiator.specs.declared.write.TheConstants.{DATA_OVERHEAD}
-use Rattle.job_parts.specs.Files.{Reads}
-use Rattle.job_parts.specs.Reading.{IsUnread}
+use Rattle.job_parts.specs.Files.{ReadsFile}
+use Rattle.job_parts.specs.Reading.{IsFileUnread}
 use Rattle.job_parts.specs.declared.faults.Fault.{Fault}
 use Rattle.job_parts.specs.declared.faults.Fault.TheVariants.{NoMemory}
-use Rattle.job_parts.specs.declared.status.Status.{Status}
-use Rattle.job_parts.specs.declared.status.Status.TheVariants.{Done, Failed, Misused}
+use Rattle.job_parts.specs.declared.status.ExitStatus.{ExitStatus}
+use Rattle.job_parts.specs.declared.status.ExitStatus.TheVariants.{Done, Failed, Misused}
 use Rattle.job_packets.specs.Loads.{with_loads}
-use Rattle.job_packets.specs.Requests.{has_reply_address, line_of}
+use Rattle.job_packets.specs.Requests.{has_reply_address, request_line_of}
 use Rattle.job_packets.specs.declared.orders.Order.{Order}
 use Rattle.job_packets.specs.declared.orders.Order.TheVariants.{Read, Write, Rmw, Load}
-use Rattle.job_packets.specs.declared.orders.Source.TheVariants.{Bytes, File}
+use Rattle.job_packets.specs.declared.orders.DataSource.TheVariants.{Bytes, File}
 use Rattle.job_packets.specs.declared.packet.PacketWords.{PacketWords}
 use Rattle.job_packets.specs.declared.packet_options.HeaderWords.{HeaderWords}
 
@@ -38,25 +38,25 @@ own_request h code address count = record {
 
 -- there are such packets: the codes and the lengths fit their fields, no packet is longer than 4,200 bytes, and an
 -- image fits the staging
-abbrev pub fits : HeaderWords → Order → (content : List ℕ) → Bool
-fits h (Read code address count) content = nat_lt code 16 && nat_lt count 16777216
-fits h (Write code address source) content = nat_lt code 16 && is_short h (length content)
-fits h (Rmw address bytes) content = is_short h (length content)
-fits h (Load image slots) content = nat_le (length content) STAGING_SIZE
+abbrev pub packets_fit : HeaderWords → Order → (content : List ℕ) → Bool
+packets_fit h (Read code address count) content = nat_lt code 16 && nat_lt count 16777216
+packets_fit h (Write code address source) content = nat_lt code 16 && is_short h (length content)
+packets_fit h (Rmw address bytes) content = is_short h (length content)
+packets_fit h (Load image slots) content = nat_le (length content) STAGING_SIZE
 
 -- the lines of the packets after others, with the data or the image that was given
 abbrev pub with_text : (front : List ℕ) → HeaderWords → Order → (content : List ℕ) → List ℕ
-with_text front h (Read code address count) content = front ++ line_of h (own_request h code address count) []
+with_text front h (Read code address count) content = front ++ request_line_of h (own_request h code address count) []
 with_text front h (Write code address source) content =
-    front ++ line_of h (own_request h code address (length content)) (with_crc content)
+    front ++ request_line_of h (own_request h code address (length content)) (with_crc content)
 with_text front h (Rmw address bytes) content =
-    front ++ line_of h (own_request h RMW_CODE address (length content)) (with_crc content)
+    front ++ request_line_of h (own_request h RMW_CODE address (length content)) (with_crc content)
 with_text front h (Load image slots) content = with_loads front h h.transaction slots.items content
 
 -- the lines, if there are such packets
 abbrev pub made_text : PacketWords → (content : List ℕ) → Option (List ℕ)
 made_text words content =
-    if has_reply_address words.header && fits words.header words.order content
+    if has_reply_address words.header && packets_fit words.header words.order content
     then Some (with_text [] words.header words.order content)
     else None
 
@@ -76,7 +76,7 @@ own_data (Write code address (File name)) = []
 own_data (Rmw address bytes) = bytes.items
 own_data (Load image slots) = []
 
-module _ {S : Type 0} (reads : Reads S) where
+module _ {S : Type 0} (reads : ReadsFile S) where
   -- the data are those of the file, or, if there is none, those that the words have
   abbrev pub IsContentOf : Option (List ℕ) → (own : List ℕ) → (before : S) → (content : List ℕ) → (after : S) → Type 0
   IsContentOf None own before content after = (content ≡ own) × (after ≡ before)
@@ -107,20 +107,20 @@ module _ {S : Type 0} (reads : Reads S) where
   pub record ContentUnread (words : PacketWords) (before after : S) (fault : Fault) : Type 0 where
     pub name : List ℕ
     pub named : file_of words.order ≡ Some name
-    pub unread : IsUnread reads before name after fault
+    pub unread : IsFileUnread reads before name after fault
 
   -- the data or the image was given, but memory was refused after that
-  pub record IsUnmade (words : PacketWords) (before after : S) (fault : Fault) : Type 0 where
+  pub record IsPacketUnmade (words : PacketWords) (before after : S) (fault : Fault) : Type 0 where
     pub content : List ℕ
     pub given : IsContent words.order before content after
     pub is_fault : fault ≡ NoMemory
 
   -- why no packets were made
   abbrev pub IsNotMade : PacketWords → (before after : S) → Fault → Type 0
-  IsNotMade words before after fault = ContentUnread words before after fault ⊎ IsUnmade words before after fault
+  IsNotMade words before after fault = ContentUnread words before after fault ⊎ IsPacketUnmade words before after fault
 
   -- what `packet` reads and prints if no fault ends it, by its exit status
-  abbrev pub MakesFile : PacketWords → (before after : S) → (old new : Option (List ℕ)) → Status → Type 0
+  abbrev pub MakesFile : PacketWords → (before after : S) → (old new : Option (List ℕ)) → ExitStatus → Type 0
   MakesFile words before after old new Done = MakesPackets words before after old new
   MakesFile words before after old new Failed = ⊥
   MakesFile words before after old new Misused = MakesNone words before after old new

@@ -2,7 +2,7 @@
 use Rattle.std.specs.Prelude.{◌≡◌, List, codes}
 use Rattle.clap.specs.Walk.{Row}
 use Rattle.clap.specs.Simple.{App, new_app, with_rule}
-use Rattle.job_parts.specs.Arguments.{file_rule, flag_rule, is_set, option_rule, optional_rule}
+use Rattle.job_parts.specs.Arguments.{file_rule, flag_rule, is_flag_set, option_rule, optional_rule}
 use Rattle.job_packets.specs.HexWords.{Has}
 use Rattle.job_packets.specs.Orders.{NamesOrder}
 use Rattle.job_packets.specs.PacketOptions.{GivesHeader, with_field_options}
@@ -31,7 +31,7 @@ packet_app =
 -- the words are those of packet with these matches
 abbrev pub NamesPacket : List Row → PacketWords → Type 0
 NamesPacket rows words =
-    GivesHeader rows words.header × NamesOrder rows words.order × (words.is_final ≡ is_set (codes "final") rows)
+    GivesHeader rows words.header × NamesOrder rows words.order × (words.is_final ≡ is_flag_set (codes "final") rows)
 
 -- matches that no words of packet have
 abbrev pub SpoilsPacket : List Row → Type 0

@@ -4,7 +4,7 @@ use Rattle.clap.specs.Walk.{Row, first_of}
 use Rattle.clap.specs.Simple.{App, with_rule}
 use Rattle.spw.specs.Line.{WritesPort}
 use Rattle.job_parts.specs.Arguments.{option_rule}
-use Rattle.job_packets.specs.HexWords.{WritesBytes, WritesHex}
+use Rattle.job_packets.specs.HexWords.{WritesBytes, WritesHexWord}
 use Rattle.job_packets.specs.declared.packet_options.HeaderWords.{HeaderWords}
 
 -- a subcommand with the options of a packet's fields
@@ -17,7 +17,7 @@ with_field_options app =
 -- the number is what the option's value writes in at most `most` hexadecimal digits; without the option it is this one
 abbrev pub GivesHex : (most default : ℕ) → Option (List ℕ) → ℕ → Type 0
 GivesHex most default None n = n ≡ default
-GivesHex most default (Some word) n = WritesHex most word n
+GivesHex most default (Some word) n = WritesHexWord most word n
 
 -- the port is what the option's value writes; without the option it is 0
 abbrev pub GivesPort : Option (List ℕ) → ℕ → Type 0
@@ -30,15 +30,15 @@ abbrev pub zeros_before : ℕ → ℕ
 zeros_before count = (4 - count % 4) % 4
 
 -- the bytes of a reply address, with its zeros in front
-abbrev pub padded : List ℕ → List ℕ
-padded bytes = replicate (zeros_before (length bytes)) 0 ++ bytes
+abbrev pub padded_address : List ℕ → List ℕ
+padded_address bytes = replicate (zeros_before (length bytes)) 0 ++ bytes
 
 -- the reply address is that of the bytes that the word writes, at most 12
 pub record PadsAddress (word bytes : List ℕ) : Type 0 where
   pub written : List ℕ
   pub writes : WritesBytes word written
   pub few : length written ≤ 12
-  pub is : bytes ≡ padded written
+  pub is : bytes ≡ padded_address written
 
 -- the reply address is what the option's value writes; without the option there is none
 abbrev pub GivesAddress : Option (List ℕ) → List ℕ → Type 0

@@ -32,8 +32,8 @@ abbrev pub marked_line : (port : ℕ) → (digits : List ℕ) → List ℕ
 marked_line port digits = decimal port ++ codes " " ++ digits ++ codes " EOP" ++ 10 ∷ []
 
 -- the packet line of the command that is requested, with that body, and its line feed (10)
-unfoldable pub line_of : HeaderWords → Request → (body : List ℕ) → List ℕ
-line_of h r body =
+unfoldable pub request_line_of : HeaderWords → Request → (body : List ℕ) → List ℕ
+request_line_of h r body =
     packet_line h.port (record { bytes = bytes_of (command_with (fields_with h r) body); end = Eop }) ++ 10 ∷ []
 
 -- the reply address has 0, 4, 8 or 12 bytes

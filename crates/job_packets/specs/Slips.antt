@@ -57,10 +57,10 @@ is_flag words.ReplyAddress = false
 -- ---- slips
 
 -- the word of a slip
-abbrev pub word_of : Slip → PacketWord
-word_of (Missing word) = word
-word_of (Bad word) = word
-word_of (Foreign word) = word
+abbrev pub slip_word_of : Slip → PacketWord
+slip_word_of (Missing word) = word
+slip_word_of (Bad word) = word
+slip_word_of (Foreign word) = word
 
 -- the fault of a word that is not one that it may be
 abbrev pub bad_word : PacketWord → PacketFault

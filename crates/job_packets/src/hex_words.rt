@@ -1,7 +1,7 @@
 //! What words in hexadecimal digits write: numbers, and bytes.
 
 ghost use Rattle.std.specs.Prelude.{◌≡◌, ◌≤◌, ◌<◌, ◌^◌, ℕ, IfErr, IfOk, IfSome, MatchOption};
-ghost use Rattle.job_packets.specs.HexWords.{Has, WritesBytes, WritesDigits, WritesHex, fault_of_hex};
+ghost use Rattle.job_packets.specs.HexWords.{Has, WritesBytes, WritesDigits, WritesHexWord, fault_of_hex_word};
 ghost use Rattle.job_packets.specs.Slips.{IsWordFault};
 
 use crate::slips::{PacketFault, PacketWord};
@@ -24,8 +24,8 @@ fn digits_written(digits: &str, most: usize) -> Option<u32>
 /// The number that a word writes in at most `most` hexadecimal digits, with or without `0x` before them.
 pub fn hex_written(word: &str, most: usize) -> Option<u32>
     requires { most ≤ 8 }
-    ensures writes { MatchOption result ((n : ℕ) → ¬ WritesHex most word.now n)
-        (WritesHex most word.now) }
+    ensures writes { MatchOption result ((n : ℕ) → ¬ WritesHexWord most word.now n)
+        (WritesHexWord most word.now) }
     ensures low { IfSome result (λ n. n < 16 ^ most) }
 {
     match word.strip_prefix("0x") {
@@ -36,7 +36,7 @@ pub fn hex_written(word: &str, most: usize) -> Option<u32>
 
 /// The fault if the text of this word is not decoded: it writes no bytes, or memory was refused.
 fn fault_of(refused: FromHexError, word: PacketWord) -> PacketFault
-    ensures { result ≡ fault_of_hex word refused }
+    ensures { result ≡ fault_of_hex_word word refused }
 {
     match refused {
         FromHexError::OutOfMemory => PacketFault::Memory,

@@ -1,7 +1,7 @@
 //! The packets of a load, and of loads that follow each other.
 
 ghost use Rattle.std.specs.Prelude.{◌≡◌, ◌≤◌, ◌<◌, ◌++◌, OnOk, length, string_bytes, true};
-ghost use Rattle.job_packets.specs.Loads.{behind_load, part_text, with_load, with_loads};
+ghost use Rattle.job_packets.specs.Loads.{id_after_load, part_text, with_load, with_loads};
 ghost use Rattle.job_packets.specs.Requests.{has_reply_address};
 
 use crate::packet_options::HeaderWords;
@@ -61,9 +61,9 @@ fn add_load(
 }
 
 /// The transaction identifier after those of a load that begins with this one.
-fn behind_load(transaction: u16, image: &[u8]) -> u16
+fn id_after_load(transaction: u16, image: &[u8]) -> u16
     requires { length image.now ≤ 16384 }
-    ensures { result ≡ behind_load transaction image.now }
+    ensures { result ≡ id_after_load transaction image.now }
 {
     result_request(transaction, image)
         .transaction
@@ -90,7 +90,7 @@ pub fn add_loads(
     let mut transaction = header.transaction;
     for slot in slots {
         add_load(text, alloc, header, transaction, *slot, image)?;
-        transaction = behind_load(transaction, image);
+        transaction = id_after_load(transaction, image);
     }
     Ok(())
 }

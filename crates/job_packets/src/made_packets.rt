@@ -3,11 +3,11 @@
 ghost use Rattle.std.specs.Prelude.{◌≡◌, ◌<◌, ◌≤◌, ◌^◌, ◌++◌, IfErr, IfOk, OnOk, length, option_map, string_bytes, true};
 ghost use Rattle.rmap.specs.Reply.{with_crc};
 ghost use Rattle.job_parts.specs.Stops.{StopsBy};
-ghost use Rattle.job_packets.specs.MadePackets.{IsContent, IsMade, IsNotMade, MakesFile, fits, is_short, made_text, own_request, with_text};
-ghost use Rattle.job_packets.specs.Requests.{has_reply_address, line_of};
+ghost use Rattle.job_packets.specs.MadePackets.{IsContent, IsMade, IsNotMade, MakesFile, packets_fit, is_short, made_text, own_request, with_text};
+ghost use Rattle.job_packets.specs.Requests.{has_reply_address, request_line_of};
 
 use crate::loads::add_loads;
-use crate::orders::{Order, Source};
+use crate::orders::{Order, DataSource};
 use crate::packet::PacketWords;
 use crate::packet_options::HeaderWords;
 use crate::requests::add_line;
@@ -15,8 +15,8 @@ use initiator::{DATA_OVERHEAD, RMW_CODE, Request, body_with_crc};
 use job_parts::faults::Fault;
 use job_parts::printing::print_text;
 use job_parts::programs::bytes_in;
-use job_parts::status::Status;
-use job_parts::stops::Halt;
+use job_parts::status::ExitStatus;
+use job_parts::stops::JobStop;
 use job_parts::storage::Files;
 use rmap::STAGING_SIZE;
 use spw::MAX_PACKET;
@@ -36,12 +36,12 @@ fn content_of<'a, F: Files>(
     match &words.order {
         Order::Read { .. } => Ok(Vec::new(alloc)),
         Order::Write {
-            source: Source::Bytes(bytes),
+            source: DataSource::Bytes(bytes),
             ..
         }
         | Order::Rmw { bytes, .. } => Ok(Vec::from_slice(alloc, bytes.as_slice())?),
         Order::Write {
-            source: Source::File(name),
+            source: DataSource::File(name),
             ..
         } => bytes_in(alloc, files, name.as_str()),
         Order::Load { image, .. } => bytes_in(alloc, files, image.as_str()),
@@ -79,9 +79,9 @@ fn is_short(header: &HeaderWords, count: usize) -> bool
 }
 
 /// Whether there are such packets.
-fn fits(header: &HeaderWords, order: &Order, content: &[u8]) -> bool
+fn packets_fit(header: &HeaderWords, order: &Order, content: &[u8]) -> bool
     requires { has_reply_address header.now ≡ true }
-    ensures { result ≡ fits header.now order.now content.now }
+    ensures { result ≡ packets_fit header.now order.now content.now }
 {
     match order {
         Order::Read { code, count, .. } => *code < 16 && *count < 1 << 24,
@@ -104,7 +104,7 @@ fn add_data(
     requires code { code < 16 }
     requires short { length content.now < 2 ^ 24 }
     ensures { OnOk result (string_bytes text.new ≡ string_bytes text.old
-        ++ line_of header.now (own_request header.now code address (length content.now)) (with_crc content.now)) }
+        ++ request_line_of header.now (own_request header.now code address (length content.now)) (with_crc content.now)) }
 {
     let body = body_with_crc(alloc, content)?;
     let request = own_request(header, code, address, content.len() as u32);
@@ -120,7 +120,7 @@ fn add_packets(
     content: &[u8],
 ) -> Result<(), AllocError>
     requires address { has_reply_address header.now ≡ true }
-    requires fits { fits header.now order.now content.now ≡ true }
+    requires packets_fit { packets_fit header.now order.now content.now ≡ true }
     ensures { OnOk result
         (string_bytes text.new ≡ with_text (string_bytes text.old) header.now order.now content.now) }
 {
@@ -154,7 +154,7 @@ pub fn made_text(
     ensures { IfOk result (λ made. option_map string_bytes made ≡ made_text words.now content.now) }
 {
     let header = &words.header;
-    if !has_reply_address(header) || !fits(header, &words.order, content) {
+    if !has_reply_address(header) || !packets_fit(header, &words.order, content) {
         return Ok(None);
     }
     let mut text = String::new(alloc);
@@ -187,15 +187,15 @@ pub fn packet_file<'a, F: Files, W: Write>(
     words: &'a PacketWords,
     files: &mut F,
     out: &mut W,
-) -> Result<Status, Halt<'a>>
+) -> Result<ExitStatus, JobStop<'a>>
     ensures done { IfOk result (MakesFile F.reads words.now files.old files.new
         (W.contents out.old) (W.contents out.new)) }
     ensures stops { IfErr result (StopsBy (IsNotMade F.reads words.now files.old files.new)) }
     ensures quiet { IfErr result (StopsBy (λ _. W.contents out.new ≡ W.contents out.old)) }
 {
     let Some(text) = packets(alloc, words, files)? else {
-        return Ok(Status::Misused);
+        return Ok(ExitStatus::Misused);
     };
     print_text(out, text.as_str())?;
-    Ok(Status::Done)
+    Ok(ExitStatus::Done)
 }

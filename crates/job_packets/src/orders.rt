@@ -4,7 +4,7 @@ ghost use Rattle.std.specs.Prelude.{◌≡◌, ℕ, Some, IfErr, IfOk, MatchResu
 ghost use Rattle.job_parts.specs.Matched.{first_of, found_of, rows_of};
 ghost use Rattle.job_parts.specs.Options.{IsNumberWithin, WritesSuch};
 ghost use Rattle.job_packets.specs.HexWords.{Has};
-ghost use Rattle.job_packets.specs.Orders.{AreMasked, Gives, GivesMasked, GivesPlace, HasLoad, HasRead, HasRmw, HasWrite, NamesOrder, OrdersLoad, OrdersRead, OrdersRmw, OrdersWrite, WritesSource, is_given, is_load_alone, is_plain, is_read_alone, is_rmw_alone, is_write_alone, read_code, write_code};
+ghost use Rattle.job_packets.specs.Orders.{AreMasked, GivesWord, GivesMasked, GivesPlace, HasLoad, HasRead, HasRmw, HasWrite, NamesOrder, OrdersLoad, OrdersRead, OrdersRmw, OrdersWrite, WritesSource, is_given, is_load_alone, is_plain_reply, is_read_alone, is_rmw_alone, is_write_alone, packet_read_code, packet_write_code};
 ghost use Rattle.job_packets.specs.Slots.{WritesSlots};
 ghost use Rattle.job_packets.specs.Slips.{IsBadWord, IsSlip, IsWordFault, LacksWord};
 
@@ -12,7 +12,7 @@ use crate::hex_words::{bytes_written, hex_written};
 use crate::numbers::{number_written, slots_written};
 use crate::slips::{PacketFault, PacketWord, Slip};
 use clap::ArgMatches;
-use job_parts::arguments::{is_set, text_of};
+use job_parts::arguments::{is_flag_set, text_of};
 use std::alloc::Global;
 
 /// The greatest data length of a header (ECSS-E-ST-50-52C, data length field).
@@ -23,7 +23,7 @@ const MAX_MASKED: usize = 4;
 
 /// Where the data of a write are.
 #[derive(Debug, Drop)]
-pub enum Source {
+pub enum DataSource {
     /// These bytes.
     Bytes(Vec<u8>),
     /// The bytes of the file of this name.
@@ -49,7 +49,7 @@ pub enum Order {
         /// The address.
         address: u32,
         /// The data.
-        source: Source,
+        source: DataSource,
     },
     /// A read-modify-write.
     Rmw {
@@ -75,62 +75,62 @@ fn is_given(found: &ArgMatches, name: &str) -> bool
 }
 
 /// The command code of a read.
-fn read_code(found: &ArgMatches) -> u8
-    ensures { result ≡ read_code (rows_of (found_of found.now)) }
+fn packet_read_code(found: &ArgMatches) -> u8
+    ensures { result ≡ packet_read_code (rows_of (found_of found.now)) }
 {
-    initiator::read_code(!is_set(found, "no-increment"))
+    initiator::read_code(!is_flag_set(found, "no-increment"))
 }
 
 /// The command code of a write.
-fn write_code(found: &ArgMatches) -> u8
-    ensures { result ≡ write_code (rows_of (found_of found.now)) }
+fn packet_write_code(found: &ArgMatches) -> u8
+    ensures { result ≡ packet_write_code (rows_of (found_of found.now)) }
 {
-    let verify = is_set(found, "verify");
-    let reply = !is_set(found, "no-reply");
-    let increment = !is_set(found, "no-increment");
+    let verify = is_flag_set(found, "verify");
+    let reply = !is_flag_set(found, "no-reply");
+    let increment = !is_flag_set(found, "no-increment");
     initiator::write_code(verify, reply, increment)
 }
 
 /// Whether no flag is there that changes a reply or verifies.
-fn is_plain(found: &ArgMatches) -> bool
-    ensures { result ≡ is_plain (rows_of (found_of found.now)) }
+fn is_plain_reply(found: &ArgMatches) -> bool
+    ensures { result ≡ is_plain_reply (rows_of (found_of found.now)) }
 {
-    !is_set(found, "verify") && !is_set(found, "no-reply")
+    !is_flag_set(found, "verify") && !is_flag_set(found, "no-reply")
 }
 
 /// Whether there are only the words of a read.
 fn is_read_alone(found: &ArgMatches) -> bool
     ensures { result ≡ is_read_alone (rows_of (found_of found.now)) }
 {
-    is_plain(found)
+    is_plain_reply(found)
         && !is_given(found, "mask")
         && !is_given(found, "slot")
-        && !is_set(found, "final")
+        && !is_flag_set(found, "final")
 }
 
 /// Whether there are only the words of a write.
 fn is_write_alone(found: &ArgMatches) -> bool
     ensures { result ≡ is_write_alone (rows_of (found_of found.now)) }
 {
-    !is_given(found, "mask") && !is_given(found, "slot") && !is_set(found, "final")
+    !is_given(found, "mask") && !is_given(found, "slot") && !is_flag_set(found, "final")
 }
 
 /// Whether there are only the words of a read-modify-write.
 fn is_rmw_alone(found: &ArgMatches) -> bool
     ensures { result ≡ is_rmw_alone (rows_of (found_of found.now)) }
 {
-    is_plain(found)
-        && !is_set(found, "no-increment")
+    is_plain_reply(found)
+        && !is_flag_set(found, "no-increment")
         && !is_given(found, "slot")
-        && !is_set(found, "final")
+        && !is_flag_set(found, "final")
 }
 
 /// Whether there are only the words of a load.
 fn is_load_alone(found: &ArgMatches) -> bool
     ensures { result ≡ is_load_alone (rows_of (found_of found.now)) }
 {
-    is_plain(found)
-        && !is_set(found, "no-increment")
+    is_plain_reply(found)
+        && !is_flag_set(found, "no-increment")
         && !is_given(found, "data")
         && !is_given(found, "mask")
         && !is_given(found, "extended")
@@ -139,7 +139,7 @@ fn is_load_alone(found: &ArgMatches) -> bool
 /// Whether the word is there.
 fn is_there(found: &ArgMatches, word: PacketWord) -> bool {
     if word.is_flag() {
-        is_set(found, word.id())
+        is_flag_set(found, word.id())
     } else {
         is_given(found, word.id())
     }
@@ -189,8 +189,8 @@ fn number_in(
     most: u32,
 ) -> Result<u32, PacketFault>
     ensures { MatchResult result
-        (Gives (WritesSuch (IsNumberWithin 0 most)) (first_of name.now (rows_of (found_of found.now))))
-        (IsBadWord (Has (Gives (WritesSuch (IsNumberWithin 0 most)) (first_of name.now (rows_of (found_of found.now)))))) }
+        (GivesWord (WritesSuch (IsNumberWithin 0 most)) (first_of name.now (rows_of (found_of found.now))))
+        (IsBadWord (Has (GivesWord (WritesSuch (IsNumberWithin 0 most)) (first_of name.now (rows_of (found_of found.now)))))) }
 {
     let text = text_in(found, name, word)?;
     match number_written(text, most) {
@@ -200,13 +200,13 @@ fn number_in(
 }
 
 /// The data of a write that a word writes.
-fn source_written(alloc: Global, word: &str) -> Result<Source, PacketFault>
+fn source_written(alloc: Global, word: &str) -> Result<DataSource, PacketFault>
     ensures ok { IfOk result (WritesSource word.now) }
     ensures err { IfErr result (IsWordFault (Has (WritesSource word.now))) }
 {
     match word.strip_prefix('@') {
-        Some(name) => Ok(Source::File(String::from_str(alloc, name)?)),
-        None => Ok(Source::Bytes(bytes_written(alloc, word, PacketWord::Data)?)),
+        Some(name) => Ok(DataSource::File(String::from_str(alloc, name)?)),
+        None => Ok(DataSource::Bytes(bytes_written(alloc, word, PacketWord::Data)?)),
     }
 }
 
@@ -226,22 +226,22 @@ fn read_named(found: &ArgMatches) -> Result<(u8, u32, u32), PacketFault>
     }
     let address = address_of(found)?;
     let count = number_in(found, "data", PacketWord::Length, MAX_LENGTH)?;
-    Ok((read_code(found), address, count))
+    Ok((packet_read_code(found), address, count))
 }
 
 /// The data of a write.
-fn source_of(alloc: Global, found: &ArgMatches) -> Result<Source, PacketFault>
+fn source_of(alloc: Global, found: &ArgMatches) -> Result<DataSource, PacketFault>
     ensures ok { IfOk result
-        (Gives WritesSource (first_of (codes "data") (rows_of (found_of found.now)))) }
+        (GivesWord WritesSource (first_of (codes "data") (rows_of (found_of found.now)))) }
     ensures err { IfErr result (IsWordFault (Has
-        (Gives WritesSource (first_of (codes "data") (rows_of (found_of found.now)))))) }
+        (GivesWord WritesSource (first_of (codes "data") (rows_of (found_of found.now)))))) }
 {
     let text = text_in(found, "data", PacketWord::Data)?;
     source_written(alloc, text)
 }
 
 /// A write: command code, address and data.
-fn write_named(alloc: Global, found: &ArgMatches) -> Result<(u8, u32, Source), PacketFault>
+fn write_named(alloc: Global, found: &ArgMatches) -> Result<(u8, u32, DataSource), PacketFault>
     ensures ok { IfOk result (λ r. OrdersWrite (rows_of (found_of found.now)) r.0 r.1 r.2) }
     ensures err { IfErr result (IsWordFault (HasWrite (rows_of (found_of found.now)))) }
 {
@@ -251,16 +251,16 @@ fn write_named(alloc: Global, found: &ArgMatches) -> Result<(u8, u32, Source), P
     }
     let address = address_of(found)?;
     let source = source_of(alloc, found)?;
-    Ok((write_code(found), address, source))
+    Ok((packet_write_code(found), address, source))
 }
 
 /// The data and the mask that two words write, joined.
-fn masked_written(alloc: Global, front: &str, behind: &str) -> Result<Vec<u8>, PacketFault>
-    ensures ok { IfOk result (λ bytes. AreMasked front.now behind.now bytes.items) }
-    ensures err { IfErr result (IsWordFault (Has (AreMasked front.now behind.now))) }
+fn masked_written(alloc: Global, front: &str, following: &str) -> Result<Vec<u8>, PacketFault>
+    ensures ok { IfOk result (λ bytes. AreMasked front.now following.now bytes.items) }
+    ensures err { IfErr result (IsWordFault (Has (AreMasked front.now following.now))) }
 {
     let mut bytes = bytes_written(alloc, front, PacketWord::Masked)?;
-    let mask = bytes_written(alloc, behind, PacketWord::Mask)?;
+    let mask = bytes_written(alloc, following, PacketWord::Mask)?;
     if bytes.len() > MAX_MASKED {
         return Err(PacketFault::bad(PacketWord::Masked));
     }
@@ -281,8 +281,8 @@ fn masked_of(alloc: Global, found: &ArgMatches) -> Result<Vec<u8>, PacketFault>
         (first_of (codes "mask") (rows_of (found_of found.now)))))) }
 {
     let front = text_in(found, "data", PacketWord::Masked)?;
-    let behind = text_in(found, "mask", PacketWord::Mask)?;
-    masked_written(alloc, front, behind)
+    let following = text_in(found, "mask", PacketWord::Mask)?;
+    masked_written(alloc, front, following)
 }
 
 /// A read-modify-write: address, and data with the mask.
@@ -321,9 +321,9 @@ fn foreign_to_load(found: &ArgMatches) -> PacketFault
 /// The slots of loads.
 fn slots_of(alloc: Global, found: &ArgMatches) -> Result<Vec<u8>, PacketFault>
     ensures ok { IfOk result (λ slots.
-        Gives WritesSlots (first_of (codes "slot") (rows_of (found_of found.now))) slots.items) }
+        GivesWord WritesSlots (first_of (codes "slot") (rows_of (found_of found.now))) slots.items) }
     ensures err { IfErr result (IsWordFault (Has
-        (Gives WritesSlots (first_of (codes "slot") (rows_of (found_of found.now)))))) }
+        (GivesWord WritesSlots (first_of (codes "slot") (rows_of (found_of found.now)))))) }
 {
     let text = text_in(found, "slot", PacketWord::Slot)?;
     slots_written(alloc, text)

@@ -8,11 +8,11 @@ ghost use Rattle.job_packets.specs.MadePackets.{file_of};
 ghost use Rattle.job_packets.specs.PacketJob.{NamesPacket, RefusesPacket, packet_app, with_order_options, with_order_words};
 ghost use Rattle.job_packets.specs.Slips.{IsWordFault};
 
-use crate::orders::{Order, Source, order_of};
+use crate::orders::{Order, DataSource, order_of};
 use crate::packet_options::{HeaderWords, field_arguments, header_words};
 use crate::slips::PacketFault;
 use clap::{ArgMatches, Command};
-use job_parts::arguments::{file, flag, is_set, option, optional};
+use job_parts::arguments::{file, flag, is_flag_set, option, optional};
 use job_parts::inputs::{Content, InputFile, Inputs};
 use job_parts::usage::UsageFault;
 use rmap::STAGING_SIZE;
@@ -40,7 +40,7 @@ impl PacketWords {
         let (name, most) = match &self.order {
             Order::Load { image, .. } => (image, u64::from(STAGING_SIZE)),
             Order::Write {
-                source: Source::File(name),
+                source: DataSource::File(name),
                 ..
             } => (name, MAX_PACKET as u64),
             Order::Read { .. } | Order::Write { .. } | Order::Rmw { .. } => {
@@ -130,7 +130,7 @@ pub fn packet_words(alloc: Global, found: &ArgMatches) -> Result<PacketWords, Pa
 {
     let header = header_words(alloc, found)?;
     let order = order_of(alloc, found)?;
-    let is_final = is_set(found, "final");
+    let is_final = is_flag_set(found, "final");
     Ok(PacketWords {
         header,
         order,

@@ -3,7 +3,7 @@
 ghost use Rattle.std.specs.Prelude.{◌≡◌, ℕ, List, IfErr, IfOk, MatchResult, codes, false};
 ghost use Rattle.job_parts.specs.Matched.{app_of, fields_of, first_of, found_of, rows_of};
 ghost use Rattle.job_packets.specs.HexWords.{Has};
-ghost use Rattle.job_packets.specs.PacketOptions.{GivesAddress, GivesHeader, GivesHex, GivesPort, padded, with_field_options};
+ghost use Rattle.job_packets.specs.PacketOptions.{GivesAddress, GivesHeader, GivesHex, GivesPort, padded_address, with_field_options};
 ghost use Rattle.job_packets.specs.Slips.{IsBadWord, IsWordFault};
 
 use crate::hex_words::{bytes_written, hex_written};
@@ -131,8 +131,8 @@ fn pair_of(
 }
 
 /// A reply address of at most 12 bytes, with the zeros that come before it.
-fn padded(alloc: Global, bytes: &[u8]) -> Result<Vec<u8>, AllocError>
-    ensures { IfOk result (λ address. address.items ≡ padded bytes.now) }
+fn padded_address(alloc: Global, bytes: &[u8]) -> Result<Vec<u8>, AllocError>
+    ensures { IfOk result (λ address. address.items ≡ padded_address bytes.now) }
 {
     let zeros = (4 - bytes.len() % 4) % 4;
     let mut address = vec![in alloc; 0; zeros]?;
@@ -154,7 +154,7 @@ fn reply_address_of(alloc: Global, found: &ArgMatches) -> Result<Vec<u8>, Packet
     if bytes.len() > MAX_REPLY_ADDRESS {
         return Err(PacketFault::bad(PacketWord::ReplyAddress));
     }
-    Ok(padded(alloc, bytes.as_slice())?)
+    Ok(padded_address(alloc, bytes.as_slice())?)
 }
 
 /// The words of a header by the options.

@@ -3,7 +3,7 @@
 ghost use Rattle.std.specs.Prelude.{◌≡◌, ◌≤◌, ◌<◌, ◌^◌, ◌++◌, IfOk, IsTrue, OnOk, length, string_bytes, true};
 ghost use Rattle.initiator.specs.Writing.{AreFields, command_with};
 ghost use Rattle.rmap.specs.Command.{IsHeader, bytes_of};
-ghost use Rattle.job_packets.specs.Requests.{fields_with, has_reply_address, line_of, marked_line};
+ghost use Rattle.job_packets.specs.Requests.{fields_with, has_reply_address, request_line_of, marked_line};
 
 use crate::packet_options::HeaderWords;
 use initiator::{CommandFields, Request, write_command};
@@ -82,7 +82,7 @@ pub fn add_line(
     requires code { request.code < 16 }
     requires count { request.count < 2 ^ 24 }
     ensures { OnOk result
-        (string_bytes text.new ≡ string_bytes text.old ++ line_of header.now request body.now) }
+        (string_bytes text.new ≡ string_bytes text.old ++ request_line_of header.now request body.now) }
 {
     let bytes = command_bytes(alloc, header, request, body)?;
     let digits = hex::encode_upper(alloc, bytes.as_slice())?;

@@ -1,7 +1,7 @@
 //! What is wrong with words that order no packet.
 
 ghost use Rattle.std.specs.Prelude.{◌≡◌};
-ghost use Rattle.job_packets.specs.Slips.{bad_word, is_flag, usage_fault_of, word_id, word_of};
+ghost use Rattle.job_packets.specs.Slips.{bad_word, is_flag, usage_fault_of, word_id, slip_word_of};
 ghost use Rattle.job_packets.specs.declared.slips.PacketFault.TheVariants.{Memory};
 
 use job_parts::usage::UsageFault;
@@ -169,7 +169,7 @@ pub enum Slip {
 impl Slip {
     /// The word.
     pub fn word(self) -> PacketWord
-        ensures { result ≡ word_of self }
+        ensures { result ≡ slip_word_of self }
     {
         match self {
             Slip::Missing(word) | Slip::Bad(word) | Slip::Foreign(word) => word,

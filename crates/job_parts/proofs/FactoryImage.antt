@@ -3,7 +3,7 @@ use Rattle.std.proofs.Common.{◌≡◌, refl, sym, ap, arith, ◌∙◌, ℕ, [
 use Rattle.std.specs.Prelude.{Result, Ok, Err}
 use Rattle.bpf.specs.Parts.{parts_fault, parts_reading}
 use Rattle.bpf.specs.Program.{Program}
-use Rattle.bpf.specs.Reading.{Fails}
+use Rattle.bpf.specs.Reading.{FailsReading}
 use Rattle.bpf.specs.declared.version.Version.TheVariants.{One}
 use Rattle.bpf.specs.declared.fault.ImageFault.{ImageFault}
 use Rattle.bpf.specs.declared.fault.ImageFault.TheVariants as faults
@@ -23,7 +23,7 @@ no_fault : (fault : ImageFault) → parts_reading One factory_insns [] 2 ≡ Err
 no_fault fault h = omega (arith, ap outcome (sym factory_reading ∙ h))
 
 -- only memory can be refused to the factory image
-pub memory_alone : (fault : ImageFault) → Fails fault (parts_reading One factory_insns [] 2) → fault ≡ faults.Memory
+pub memory_alone : (fault : ImageFault) → FailsReading fault (parts_reading One factory_insns [] 2) → fault ≡ faults.Memory
 memory_alone faults.Memory h = refl
 memory_alone faults.Magic h = absurd (no_fault _ h)
 memory_alone faults.Version h = absurd (no_fault _ h)

@@ -15,13 +15,13 @@ use Rattle.absdom_num.specs.Tables.{whole_range}
 use Rattle.absdom.specs.declared.kinds.AbsKind.{AbsKind}
 use Rattle.absdom.specs.declared.kinds.AbsKind.TheVariants.{Num, Unset}
 use Rattle.absdom_stack.specs.StackWords.{all_whole, range_in}
-use Rattle.absdom.specs.State.{IsBelow, IsEntry, IsProper, IsWhole, StateValue, entry_kinds}
+use Rattle.absdom.specs.State.{IsStateBelow, IsEntry, IsProper, IsWhole, StateValue, entry_kinds}
 use Rattle.bver_form.specs.Form.{IsAllowed}
 use Rattle.bver_form.specs.Loops.{IsLoopFormed}
 use Rattle.bver_form.specs.declared.refusal.Refusal.{Refusal}
 use Rattle.bver_form.specs.declared.refusal.Refusal.TheVariants as refusals
 use Rattle.bver_form.specs.declared.refusal.Refused.{Refused}
-use Rattle.bver.specs.Unjustified.{TellsUnjustified}
+use Rattle.bver.specs.Unjustified.{ReportsUnjustified}
 use Rattle.bver.specs.Justified.{IsHead, IsJustified, IsPermittedAt}
 use Rattle.absdom_stack.specs.Spill.{spill_of}
 use Rattle.job_parts.specs.Factory.{factory}
@@ -69,7 +69,7 @@ is_entry : IsEntry entry
 unfolding entry no_marks
 is_entry = record { kinds = refl; marks = unmarked 512; ranges = whole_word }
 
-entry_below : IsBelow entry (known Unset)
+entry_below : IsStateBelow entry (known Unset)
 unfolding entry answer_kinds
 entry_below = record {
   kinds = each_below entry_kinds (answer_kinds Unset) (tt, (tt, (tt, (tt, (tt, (tt, (tt, (tt, (tt, (tt, (tt, tt)))))))))));
@@ -78,7 +78,7 @@ entry_below = record {
 }
 
 -- a number in r0 is among all numbers
-answered : (range : Range) → IsWithin range (whole_range Bits64) → IsBelow (known (Num range)) (known number)
+answered : (range : Range) → IsWithin range (whole_range Bits64) → IsStateBelow (known (Num range)) (known number)
 unfolding answer_kinds
 answered range within = record {
   kinds = each_below (answer_kinds (Num range)) (answer_kinds number) (within, (tt, (tt, (tt, (tt, (tt, (tt, (tt, (tt, (tt, (tt, tt)))))))))));
@@ -147,6 +147,6 @@ memory_alone refusals.Unsupported h = absurd (h (λ e. cc e))
 memory_alone refusals.MapKind h = absurd (h (λ e. cc e))
 
 -- The verifier refuses it only if memory is refused.
-pub refused_for_memory : (maps : Maps) (p : Program) (refused : Refused) → p ≡ factory → IsProgram p → TellsUnjustified p maps refused → refused.code ≡ refusals.Memory
-refused_for_memory maps p refused is limits told =
-    memory_alone refused.code (λ other. told other (subst (λ (q : Program). IsJustified q maps) (sym is) (factory_justified maps (subst IsProgram is limits))))
+pub refused_for_memory : (maps : Maps) (p : Program) (refused : Refused) → p ≡ factory → IsProgram p → ReportsUnjustified p maps refused → refused.code ≡ refusals.Memory
+refused_for_memory maps p refused is limits reported =
+    memory_alone refused.code (λ other. reported other (subst (λ (q : Program). IsJustified q maps) (sym is) (factory_justified maps (subst IsProgram is limits))))

@@ -10,10 +10,10 @@ unfolding encode_with
 no_digits = refl
 
 -- Two parts.
-pub digits_both : (front behind : List ℕ) → encode_upper (front ++ behind) ≡ encode_upper front ++ encode_upper behind
+pub digits_both : (front following : List ℕ) → encode_upper (front ++ following) ≡ encode_upper front ++ encode_upper following
 unfolding encode_with
-digits_both [] behind = refl
-digits_both (first ∷ front) behind = ap (λ (text : List ℕ). encode_upper (first ∷ []) ++ text) (digits_both front behind)
+digits_both [] following = refl
+digits_both (first ∷ front) following = ap (λ (text : List ℕ). encode_upper (first ∷ []) ++ text) (digits_both front following)
 
 -- One byte.
 pub one_byte : (byte : ℕ) → encode_upper (byte ∷ []) ≡ slice_index upper_digits (byte / 16) ∷ slice_index upper_digits (byte % 16) ∷ []
@@ -29,7 +29,7 @@ text_long (byte ∷ bytes) =
     omega (arith, rest)
 
 -- The text of the bytes at the front of some.
-pub text_of_front : (front behind all : List ℕ) → all ≡ encode_upper (front ++ behind) → take (2 * length front) all ≡ encode_upper front
-text_of_front front behind all is =
-    ap (λ (n : ℕ). take n all) (sym (text_long front)) ∙ ap (λ (text : List ℕ). take (length (encode_upper front)) text) (is ∙ digits_both front behind)
-    ∙ take-append_seam (encode_upper front) (encode_upper behind)
+pub text_of_front : (front following all : List ℕ) → all ≡ encode_upper (front ++ following) → take (2 * length front) all ≡ encode_upper front
+text_of_front front following all is =
+    ap (λ (n : ℕ). take n all) (sym (text_long front)) ∙ ap (λ (text : List ℕ). take (length (encode_upper front)) text) (is ∙ digits_both front following)
+    ∙ take-append_seam (encode_upper front) (encode_upper following)

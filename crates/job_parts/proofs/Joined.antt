@@ -59,9 +59,9 @@ module _ (bytes rest : List ℕ) (blocks : List (List ℕ)) (parts : concat bloc
     all_parts = ap (λ (bs : List (List ℕ)). concat bs ++ rest) whole ∙ parts
 
     -- there is room for what is after the blocks
-    pub room_behind : (before after : List ℕ) → after ≡ before ++ encode_upper (concat done) → length before + 2 * length bytes ≤ 144
+    pub room_after_blocks : (before after : List ℕ) → after ≡ before ++ encode_upper (concat done) → length before + 2 * length bytes ≤ 144
         → length after + 2 * length rest ≤ 144
-    room_behind before after was room =
+    room_after_blocks before after was room =
         let all : length (concat done ++ rest) ≡ length bytes = ap (λ (l : List ℕ). length l) all_parts in
         let is : length after ≡ length (before ++ encode_upper (concat done)) = ap (λ (l : List ℕ). length l) was in
         omega (arith, all, is, room, text_long (concat done), length-append (concat done) rest, length-append before (encode_upper (concat done)))
@@ -97,9 +97,9 @@ chunk_long bytes chunks i cut many below =
     ap (λ (bs : List (List ℕ)). length (get_or bs i [])) cut ∙ each_chunk (length bytes / 64) i bytes (omega arith) (omega (arith, many, below))
 
 -- the end of the text fits after what is left
-pub end_fits : (waits text rest behind : List ℕ) → length waits ≤ 4 → length rest < 64 → length behind ≤ 5 → text ≡ waits ++ encode_upper rest
-    → length text + length behind ≤ 144
-end_fits waits text rest behind few short end is =
+pub end_fits : (waits text rest following : List ℕ) → length waits ≤ 4 → length rest < 64 → length following ≤ 5 → text ≡ waits ++ encode_upper rest
+    → length text + length following ≤ 144
+end_fits waits text rest following few short end is =
     let long : length text ≡ length (waits ++ encode_upper rest) = ap (λ (l : List ℕ). length l) is in
     omega (arith, long, few, short, end, text_long rest, length-append waits (encode_upper rest))
 
@@ -136,13 +136,13 @@ one_printed front i chunks old mid new waits text left below was is one none =
     }
 
 -- all chunks, what is after them, and the end
-pub all_printed : {E : Type 0} (front bytes rest behind waits text whole : List ℕ) (i : ℕ) (chunks : List (List ℕ)) (old mid new : Option (List ℕ)) (answer : Result (Unit {0}) E)
-    → concat chunks ++ rest ≡ bytes → take i chunks ≡ chunks → IsUnderWay front i chunks old mid waits → text ≡ waits ++ encode_upper rest → whole ≡ text ++ behind
-    → OnOk answer (Appends mid new whole) → OnOk answer (Appends old new (front ++ encode_upper bytes ++ behind))
-all_printed front bytes rest behind waits text whole i chunks old mid new (Err fault) parts all was is end last = tt
-all_printed front bytes rest behind waits text whole i chunks old mid new (Ok x) parts all was is end last =
+pub all_printed : {E : Type 0} (front bytes rest following waits text whole : List ℕ) (i : ℕ) (chunks : List (List ℕ)) (old mid new : Option (List ℕ)) (answer : Result (Unit {0}) E)
+    → concat chunks ++ rest ≡ bytes → take i chunks ≡ chunks → IsUnderWay front i chunks old mid waits → text ≡ waits ++ encode_upper rest → whole ≡ text ++ following
+    → OnOk answer (Appends mid new whole) → OnOk answer (Appends old new (front ++ encode_upper bytes ++ following))
+all_printed front bytes rest following waits text whole i chunks old mid new (Err fault) parts all was is end last = tt
+all_printed front bytes rest following waits text whole i chunks old mid new (Ok x) parts all was is end last =
     let joined = all_joined bytes rest chunks parts (take i chunks) all front (was.printed ++ waits) (was.printed ++ text) was.joined
     (ap (λ (t : List ℕ). was.printed ++ t) is ∙ sym (append_assoc was.printed waits (encode_upper rest))) in
     subst (λ (t : List ℕ). Appends old new t)
-    (ap (λ (w : List ℕ). was.printed ++ w) end ∙ sym (append_assoc was.printed text behind) ∙ ap (λ (t : List ℕ). t ++ behind) joined)
+    (ap (λ (w : List ℕ). was.printed ++ w) end ∙ sym (append_assoc was.printed text following) ∙ ap (λ (t : List ℕ). t ++ following) joined)
     (Appends-trans old mid new was.printed whole was.appends last)

@@ -7,7 +7,7 @@ use native.Mathlib.Omega.{arith}
 use Rattle.machine.specs.Sizes.{AreSizes, listed_maps}
 use Rattle.machine.specs.declared.kinds.MapKind.{MapKind}
 use Rattle.machine.specs.declared.kinds.MapKind.TheVariants.{Counter, Peak}
-use Rattle.job_parts.specs.Options.{IsMap, IsMapList, is_of_peaks, kind_of, list_parts, map_of, size_word, without_last, written_maps}
+use Rattle.job_parts.specs.Options.{IsMapPart, IsMapList, is_of_peaks, map_kind_of, list_parts, map_of_part, size_word, without_last, written_maps}
 
 -- one more element of a list is mapped
 pub map-one_more : {X Y : Type 0} (f : X → Y) (xs : List X) (i : ℕ) (d : X) (old new : List Y) (n : Y) → i < length xs
@@ -18,12 +18,12 @@ map-one_more {X} {Y} f xs i d old new n inside joined is before =
 
 -- the maps of texts are those of the list that they are the parts of
 pub maps_of : {X : Type 0} (f : X → List ℕ) (xs : List X) (text : List ℕ) → map f xs ≡ list_parts text
-    → map (λ x. map_of (f x)) xs ≡ map (λ part. map_of part) (list_parts text)
-maps_of f xs text are = map_twice f xs ∙ ap (map (λ part. map_of part)) are
+    → map (λ x. map_of_part (f x)) xs ≡ map (λ part. map_of_part part) (list_parts text)
+maps_of f xs text are = map_twice f xs ∙ ap (map (λ part. map_of_part part)) are
   where
-    map_twice : {X : Type 0} (f : X → List ℕ) (xs : List X) → map (λ x. map_of (f x)) xs ≡ map (λ part. map_of part) (map f xs)
+    map_twice : {X : Type 0} (f : X → List ℕ) (xs : List X) → map (λ x. map_of_part (f x)) xs ≡ map (λ part. map_of_part part) (map f xs)
     map_twice f [] = refl
-    map_twice f (x ∷ xs) = ap (λ (l : List (ℕ × MapKind)). map_of (f x) ∷ l) (map_twice f xs)
+    map_twice f (x ∷ xs) = ap (λ (l : List (ℕ × MapKind)). map_of_part (f x) ∷ l) (map_twice f xs)
 
 -- what holds of each image of a list holds of its elements by their images
 pub unmapped : {X : Type 0} (P : List ℕ → Type 0) (f : X → List ℕ) (xs : List X) → All P (map f xs) → All (λ x. P (f x)) xs
@@ -31,15 +31,15 @@ unmapped P f [] h = All-nil (λ x. P (f x))
 unmapped P f (x ∷ xs) h = All-cons (λ x. P (f x)) x xs (All-head P (f x) (map f xs) h) (unmapped P f xs (All-tail P (f x) (map f xs) h))
 
 -- the texts are of maps if the parts of the list are
-pub are_maps : {X : Type 0} (f : X → List ℕ) (xs : List X) (text : List ℕ) → map f xs ≡ list_parts text → IsMapList text → All (λ x. IsMap (f x)) xs
-are_maps f xs text are list = unmapped (λ part. IsMap part) f xs (subst (All (λ part. IsMap part)) (sym are) list.0)
+pub are_maps : {X : Type 0} (f : X → List ℕ) (xs : List X) (text : List ℕ) → map f xs ≡ list_parts text → IsMapList text → All (λ x. IsMapPart (f x)) xs
+are_maps f xs text are list = unmapped (λ part. IsMapPart part) f xs (subst (All (λ part. IsMapPart part)) (sym are) list.0)
 
 -- parts that are of maps, and what they write, if a node may have it, make a list
-pub map_list : {X : Type 0} (f : X → List ℕ) (xs : List X) (text : List ℕ) (maps : List (ℕ × MapKind)) → map f xs ≡ list_parts text → All (λ x. IsMap (f x)) xs
-    → maps ≡ map (λ x. map_of (f x)) xs → AreSizes (listed_maps maps) → IsMapList text × (listed_maps maps ≡ written_maps text)
+pub map_list : {X : Type 0} (f : X → List ℕ) (xs : List X) (text : List ℕ) (maps : List (ℕ × MapKind)) → map f xs ≡ list_parts text → All (λ x. IsMapPart (f x)) xs
+    → maps ≡ map (λ x. map_of_part (f x)) xs → AreSizes (listed_maps maps) → IsMapList text × (listed_maps maps ≡ written_maps text)
 map_list f xs text maps are all written allowed =
     let sizes : listed_maps maps ≡ written_maps text = ap (λ (l : List (ℕ × MapKind)). listed_maps l) (written ∙ maps_of f xs text are) in (
-      (subst (All (λ part. IsMap part)) are (All-map (λ part. IsMap part) f xs all), subst AreSizes sizes allowed),
+      (subst (All (λ part. IsMapPart part)) are (All-map (λ part. IsMapPart part) f xs all), subst AreSizes sizes allowed),
       sizes,
     )
 
@@ -66,16 +66,16 @@ not_p (x ∷ []) none = differs x (λ e. none [] (ap (λ (d : ℕ). d ∷ []) e)
 not_p (x ∷ y ∷ xs) none = not_p (y ∷ xs) (λ front e. none (x ∷ front) (ap (λ (l : List ℕ). x ∷ l) e))
 
 -- a part that is these digits and the letter p is of a peak map, and has these digits
-pub peaks_of : (part digits : List ℕ) → part ≡ digits ++ 112 ∷ [] → (digits ≡ size_word part) × (Peak ≡ kind_of part)
+pub peaks_of : (part digits : List ℕ) → part ≡ digits ++ 112 ∷ [] → (digits ≡ size_word part) × (Peak ≡ map_kind_of part)
 peaks_of part digits is = rw is (joined digits)
   where
-    joined : (digits : List ℕ) → (digits ≡ size_word (digits ++ 112 ∷ [])) × (Peak ≡ kind_of (digits ++ 112 ∷ []))
+    joined : (digits : List ℕ) → (digits ≡ size_word (digits ++ 112 ∷ [])) × (Peak ≡ map_kind_of (digits ++ 112 ∷ []))
     joined digits =
         let last : is_of_peaks (digits ++ 112 ∷ []) ≡ true = last_p digits in
         (rw last (sym (front_of digits)), rw last refl)
 
 -- a part without that letter at its end is of a counter map, and has only digits
-pub counters_of : (part : List ℕ) → ((front : List ℕ) → part ≢ front ++ 112 ∷ []) → (part ≡ size_word part) × (Counter ≡ kind_of part)
+pub counters_of : (part : List ℕ) → ((front : List ℕ) → part ≢ front ++ 112 ∷ []) → (part ≡ size_word part) × (Counter ≡ map_kind_of part)
 counters_of part none =
     let other : is_of_peaks part ≡ false = not_p part none in
     (rw other refl, rw other refl)

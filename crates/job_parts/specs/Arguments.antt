@@ -30,8 +30,8 @@ is_true None = false
 is_true (Some text) = bytes_eq text (codes "true")
 
 -- the flag of this name was given
-abbrev pub is_set : Text → List Row → Bool
-is_set name rows = is_true (first_of name rows)
+abbrev pub is_flag_set : Text → List Row → Bool
+is_flag_set name rows = is_true (first_of name rows)
 
 -- a subcommand of this name with the file of an image: NAME FILE
 abbrev pub image_app : Text → App

@@ -4,14 +4,14 @@ use Rattle.std.specs.Str.{IsUtf8}
 use Rattle.bpf.specs.Program.{Program, IsProgram, image_bytes}
 
 -- between two states of files: what a read of a name gave, its bytes or none
-abbrev pub Reads : Type 0 → Type 1
-Reads S = S → List ℕ → Option (List ℕ) → S → Type 0
+abbrev pub ReadsFile : Type 0 → Type 1
+ReadsFile S = S → List ℕ → Option (List ℕ) → S → Type 0
 
 -- between two states of files: what a write of a name was given, and whether it was taken
-abbrev pub Writes : Type 0 → Type 1
-Writes S = S → List ℕ → List ℕ → Bool → S → Type 0
+abbrev pub WritesFile : Type 0 → Type 1
+WritesFile S = S → List ℕ → List ℕ → Bool → S → Type 0
 
-module _ {S : Type 0} (reads : Reads S) where
+module _ {S : Type 0} (reads : ReadsFile S) where
   -- the file was read, and gave no bytes or none that are UTF-8
   pub record HoldsNoText (before : S) (name : List ℕ) (after : S) : Type 0 where
     pub given : Option (List ℕ)

@@ -28,8 +28,8 @@ abbrev pub IsBadValue : (right : Type 0) → UsageFault → Type 0
 IsBadValue right fault = (fault ≡ BadOption) × ¬ right
 
 -- the same; or memory was refused
-abbrev pub IsValueFault : (right : Type 0) → UsageFault → Type 0
-IsValueFault right fault = (fault ≡ Memory) ⊎ IsBadValue right fault
+abbrev pub IsOptionFault : (right : Type 0) → UsageFault → Type 0
+IsOptionFault right fault = (fault ≡ Memory) ⊎ IsBadValue right fault
 
 -- how many cells a map has: one to 256
 abbrev pub IsSize : List ℕ → Type 0
@@ -52,24 +52,24 @@ abbrev pub size_word : List ℕ → List ℕ
 size_word part = if is_of_peaks part then without_last part else part
 
 -- a part writes a map: how many cells it has, and for a peak map the letter p after it
-abbrev pub IsMap : List ℕ → Type 0
-IsMap part = IsSize (size_word part)
+abbrev pub IsMapPart : List ℕ → Type 0
+IsMapPart part = IsSize (size_word part)
 
 -- the kind of the map that a part writes
-abbrev pub kind_of : List ℕ → MapKind
-kind_of part = if is_of_peaks part then Peak else Counter
+abbrev pub map_kind_of : List ℕ → MapKind
+map_kind_of part = if is_of_peaks part then Peak else Counter
 
 -- the map that a part writes: its number of cells, and its kind
-abbrev pub map_of : List ℕ → ℕ × MapKind
-map_of part = (digits_value 10 (size_word part), kind_of part)
+abbrev pub map_of_part : List ℕ → ℕ × MapKind
+map_of_part part = (digits_value 10 (size_word part), map_kind_of part)
 
 -- a part writes the map
 abbrev pub WritesMap : List ℕ → ℕ × MapKind → Type 0
-WritesMap part m = IsMap part × (m ≡ map_of part)
+WritesMap part m = IsMapPart part × (m ≡ map_of_part part)
 
 -- each part writes a map
 abbrev pub WriteMaps : List (Bor (List ℕ)) → List (ℕ × MapKind) → Type 0
-WriteMaps parts maps = All (λ part. IsMap part.now) parts × (maps ≡ map (λ part. map_of part.now) parts)
+WriteMaps parts maps = All (λ part. IsMapPart part.now) parts × (maps ≡ map (λ part. map_of_part part.now) parts)
 
 -- the parts of a list, which commas (44) separate
 abbrev pub list_parts : List ℕ → List (List ℕ)
@@ -77,11 +77,11 @@ list_parts text = slice_split (λ code. code == 44) text
 
 -- the maps that the parts of a list write
 abbrev pub written_maps : List ℕ → Maps
-written_maps text = listed_maps (map (λ part. map_of part) (list_parts text))
+written_maps text = listed_maps (map (λ part. map_of_part part) (list_parts text))
 
 -- a list of maps that a node may have
 abbrev pub IsMapList : List ℕ → Type 0
-IsMapList text = All (λ part. IsMap part) (list_parts text) × AreSizes (written_maps text)
+IsMapList text = All (λ part. IsMapPart part) (list_parts text) × AreSizes (written_maps text)
 
 -- how many ports a node has: one to 32
 abbrev pub IsPortCount : List ℕ → Type 0

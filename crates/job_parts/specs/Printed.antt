@@ -51,5 +51,5 @@ fault_text (BadLine number fault) =
     codes "line " ++ decimal number ++ codes " fault " ++ decimal (bad_line_number fault)
 
 -- the line of what ends a job
-abbrev pub fault_line : Fault → List ℕ
-fault_line fault = fault_text fault ++ 10 ∷ []
+abbrev pub job_fault_line : Fault → List ℕ
+job_fault_line fault = fault_text fault ++ 10 ∷ []

@@ -3,18 +3,18 @@ use Rattle.std.specs.Prelude.{◌≡◌, ◌⊎◌, ℕ, List, Some, None}
 use Rattle.std.specs.Borrow.{Bor}
 use Rattle.bpf.specs.declared.fault.ImageFault.{ImageFault}
 use Rattle.bpf.specs.Program.{Program}
-use Rattle.bpf.specs.Reading.{Fails, image_reading}
+use Rattle.bpf.specs.Reading.{FailsReading, image_reading}
 use Rattle.bver.specs.Refusals.{IsRefusal}
-use Rattle.bver.specs.Unjustified.{TellsUnjustified}
+use Rattle.bver.specs.Unjustified.{ReportsUnjustified}
 use Rattle.bver_form.specs.declared.refusal.Refused.{Refused}
 use Rattle.machine.specs.Sizes.{Maps}
-use Rattle.job_parts.specs.Files.{Reads, HoldsImage, HoldsNoText}
+use Rattle.job_parts.specs.Files.{ReadsFile, HoldsImage, HoldsNoText}
 use Rattle.job_parts.specs.declared.faults.Fault.{Fault}
 use Rattle.job_parts.specs.declared.faults.Fault.TheVariants.{CannotRead, BadImage, Refused as IsRefused}
 
-module _ {S : Type 0} (reads : Reads S) where
+module _ {S : Type 0} (reads : ReadsFile S) where
   -- the file cannot be read
-  pub record IsUnread (before : S) (name : List ℕ) (after : S) (fault : Fault) : Type 0 where
+  pub record IsFileUnread (before : S) (name : List ℕ) (after : S) (fault : Fault) : Type 0 where
     pub file : Bor (List ℕ)
     pub named : file.now ≡ name
     pub is_fault : fault ≡ CannotRead file
@@ -31,12 +31,12 @@ module _ {S : Type 0} (reads : Reads S) where
   pub record HoldsFault (before : S) (name : List ℕ) (after : S) (fault : ImageFault) : Type 0 where
     pub bytes : List ℕ
     pub read : reads before name (Some bytes) after
-    pub first : Fails fault (image_reading bytes)
+    pub first : FailsReading fault (image_reading bytes)
 
   -- the file cannot be read, or its bytes are no image
   abbrev pub IsNoImage : (before : S) (name : List ℕ) (after : S) → Fault → Type 0
   IsNoImage before name after fault =
-      IsUnread before name after fault
+      IsFileUnread before name after fault
       ⊎ ((bad : ImageFault) × (fault ≡ BadImage bad) × HoldsFault before name after bad)
 
   -- the file was read, and gave the image of a program that the verifier refuses so, for what is wrong at the slot.
@@ -45,10 +45,10 @@ module _ {S : Type 0} (reads : Reads S) where
     pub program : Program
     pub image : HoldsImage reads before name program after
     pub refusal : IsRefusal program refused
-    pub unjustified : TellsUnjustified program maps refused
+    pub unjustified : ReportsUnjustified program maps refused
 
   -- the file cannot be read, its bytes are no image, or the verifier refuses its image for a node with these maps
-  abbrev pub IsNoProgram : (before : S) (name : List ℕ) (maps : Maps) (after : S) → Fault → Type 0
-  IsNoProgram before name maps after fault =
+  abbrev pub HasNoProgram : (before : S) (name : List ℕ) (maps : Maps) (after : S) → Fault → Type 0
+  HasNoProgram before name maps after fault =
       IsNoImage before name after fault
       ⊎ ((refused : Refused) × (fault ≡ IsRefused refused) × HoldsRefused before name maps after refused)

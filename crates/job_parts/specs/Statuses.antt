@@ -1,7 +1,7 @@
 -- Exit statuses.
 use Rattle.std.specs.Prelude.{◌≡◌, ℕ}
-use Rattle.job_parts.specs.declared.status.Status.{Status}
-use Rattle.job_parts.specs.declared.status.Status.TheVariants.{Done, Failed, Misused}
+use Rattle.job_parts.specs.declared.status.ExitStatus.{ExitStatus}
+use Rattle.job_parts.specs.declared.status.ExitStatus.TheVariants.{Done, Failed, Misused}
 use Rattle.job_parts.specs.declared.usage.UsageFault.{UsageFault}
 use Rattle.job_parts.specs.declared.usage.UsageFault.TheVariants.{Parse, BadOption, Memory}
 
@@ -12,11 +12,11 @@ usage_status BadOption = 2
 usage_status Memory = 1
 
 -- the number of an exit status
-abbrev pub status_code : Status → ℕ
-status_code Done = 0
-status_code Failed = 1
-status_code Misused = 2
+abbrev pub exit_code : ExitStatus → ℕ
+exit_code Done = 0
+exit_code Failed = 1
+exit_code Misused = 2
 
 -- the job was done, and this is so
-abbrev pub IsDoneWith : Type 0 → Status → Type 0
+abbrev pub IsDoneWith : Type 0 → ExitStatus → Type 0
 IsDoneWith P status = (status ≡ Done) × P

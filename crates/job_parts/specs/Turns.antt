@@ -5,14 +5,14 @@ use Rattle.job_parts.specs.declared.faults.Fault.{Fault}
 use Rattle.job_parts.specs.declared.stops.LineEnd.{LineEnd}
 
 -- between two states of what takes lines, with what was printed before and after
-abbrev pub Sees : Type 0 → Type 1
-Sees T = T → T → Option (List ℕ) → Option (List ℕ) → Type 0
+abbrev pub SeesPrinted : Type 0 → Type 1
+SeesPrinted T = T → T → Option (List ℕ) → Option (List ℕ) → Type 0
 
 -- the same of an end at a line
 abbrev pub SeesEnd : Type 0 → Type 1
 SeesEnd T = T → T → Option (List ℕ) → Option (List ℕ) → LineEnd → Type 0
 
-module _ {T : Type 0} (takes : List ℕ → Sees T) where
+module _ {T : Type 0} (takes : List ℕ → SeesPrinted T) where
   -- the lines were taken in turn, each on what the earlier ones left
   abbrev pub AreTaken : List (List ℕ) → (before after : T) → (old new : Option (List ℕ)) → Type 0
   AreTaken [] before after old new = (after ≡ before) × (new ≡ old)
@@ -20,7 +20,7 @@ module _ {T : Type 0} (takes : List ℕ → Sees T) where
       (next : T) × (between : Option (List ℕ)) × takes line before next old between × AreTaken lines next after between new
 
   -- the lines before one were taken in turn, and that one, which is counted from 1, ends the job with this fault
-  pub record StopsIn (stops : List ℕ → SeesEnd T) (lines : List (List ℕ)) (before after : T) (old new : Option (List ℕ))
+  pub record StopsInLines (stops : List ℕ → SeesEnd T) (lines : List (List ℕ)) (before after : T) (old new : Option (List ℕ))
       (fault : Fault) : Type 0 where
     pub done : List (List ℕ)
     pub line : List ℕ
@@ -34,7 +34,7 @@ module _ {T : Type 0} (takes : List ℕ → Sees T) where
     pub bad : stops line between after printed new end
 
 -- the line of that number ends the job with this fault
-abbrev pub StopsAt : {T : Type 0} → (stops : List ℕ → SeesEnd T) → (line : List ℕ) → (number : ℕ) → (before after : T)
+abbrev pub StopsLinesAt : {T : Type 0} → (stops : List ℕ → SeesEnd T) → (line : List ℕ) → (number : ℕ) → (before after : T)
     → (old new : Option (List ℕ)) → Fault → Type 0
-StopsAt stops line number before after old new fault =
+StopsLinesAt stops line number before after old new fault =
     (end : LineEnd) × (fault ≡ fault_at number end) × stops line before after old new end

@@ -5,7 +5,7 @@ use Rattle.std.specs.Str.{bytes_eq}
 use Rattle.clap.specs.Walk.{Row, first_of}
 use Rattle.policy_table.specs.TextFaults.{text_fault_of, text_fault_text}
 use Rattle.policy_table.specs.declared.text_faults.TextFault.{TextFault}
-use Rattle.job_parts.specs.Printed.{fault_line}
+use Rattle.job_parts.specs.Printed.{job_fault_line}
 use Rattle.job_parts.specs.declared.faults.Fault.TheVariants.{BadTable}
 
 -- both names are that of standard input, which one read ends
@@ -21,9 +21,9 @@ pub record NamesOneInput (rows : List Row) : Type 0 where
   pub one : are_one_input old new ≡ true
 
 -- the line of a table's fault was printed, and after it a line with the name of its file and the place
-pub record TellsNamedFault (name : List ℕ) (fault : TextFault) (old new : Option (List ℕ)) : Type 0 where
-  pub told : Option (List ℕ)
+pub record PrintsNamedFault (name : List ℕ) (fault : TextFault) (old new : Option (List ℕ)) : Type 0 where
+  pub reported : Option (List ℕ)
   pub named : Option (List ℕ)
-  pub line : Appends old told (fault_line (BadTable (text_fault_of fault)))
-  pub file : Appends told named (codes "    " ++ name ++ codes " ")
+  pub line : Appends old reported (job_fault_line (BadTable (text_fault_of fault)))
+  pub file : Appends reported named (codes "    " ++ name ++ codes " ")
   pub place : Appends named new (text_fault_text fault ++ 10 ∷ [])

@@ -3,7 +3,7 @@
 ghost use Rattle.std.specs.Prelude.{◌≡◌, IfOk, IfErr, false, option_map};
 ghost use Rattle.job_parts.specs.Matched.{app_of, fields_of, found_of};
 ghost use Rattle.clap.specs.Walk.{first_of, rows_of, rule_of};
-ghost use Rattle.job_parts.specs.Arguments.{HasName, Lacks, file_rule, flag_rule, image_app, is_set, option_rule, optional_rule};
+ghost use Rattle.job_parts.specs.Arguments.{HasName, Lacks, file_rule, flag_rule, image_app, is_flag_set, option_rule, optional_rule};
 
 use crate::usage::UsageFault;
 use clap::{Arg, ArgAction, ArgMatches, Command};
@@ -91,8 +91,8 @@ pub fn name_of(alloc: Global, found: &ArgMatches, id: &str) -> Result<String, Us
 }
 
 /// Whether the flag of this name was given.
-pub fn is_set(found: &ArgMatches, name: &str) -> bool
-    ensures { result ≡ is_set name.now (rows_of (found_of found.now)) }
+pub fn is_flag_set(found: &ArgMatches, name: &str) -> bool
+    ensures { result ≡ is_flag_set name.now (rows_of (found_of found.now)) }
 {
     match text_of(found, name) {
         Some(text) => text == "true",

@@ -6,7 +6,7 @@ ghost use Rattle.clap.specs.Walk.{first_of, rows_of, rule_of};
 ghost use Rattle.basm.specs.Relation.{texts};
 ghost use Rattle.job_parts.specs.Arguments.{option_rule};
 ghost use Rattle.job_parts.specs.Inputs.{AreInputs, image_of, input_value};
-ghost use Rattle.job_parts.specs.Options.{GivesNode, GivesPorts, GivesSizes, IsBadValue, IsMap, IsMapList, IsPortCount, IsSize, IsValueFault, RefusesCount, RefusesList, RefusesNode, WriteMaps, WritesMap, WritesSuch, kind_of, list_parts, size_word, with_node_options, written_maps};
+ghost use Rattle.job_parts.specs.Options.{GivesNode, GivesPorts, GivesSizes, IsBadValue, IsMapPart, IsMapList, IsPortCount, IsSize, IsOptionFault, RefusesCount, RefusesList, RefusesNode, WriteMaps, WritesMap, WritesSuch, map_kind_of, list_parts, size_word, with_node_options, written_maps};
 ghost use Rattle.machine.specs.Sizes.{listed_maps};
 
 use crate::arguments::{option, text_of};
@@ -73,7 +73,7 @@ fn size_written(part: &str) -> Result<u16, UsageFault>
 /// The digits of a part of a list, and the kind of its map.
 fn size_and_kind(part: &str) -> (&str, MapKind)
     ensures digits { result.0.now ≡ size_word part.now }
-    ensures kind { result.1 ≡ kind_of part.now }
+    ensures kind { result.1 ≡ map_kind_of part.now }
 {
     match part.strip_suffix('p') {
         Some(digits) => (digits, MapKind::Peak),
@@ -83,7 +83,7 @@ fn size_and_kind(part: &str) -> (&str, MapKind)
 
 /// The map that a part of a list writes, or `BadOption`.
 fn map_written(part: &str) -> Result<(u16, MapKind), UsageFault>
-    ensures { MatchResult result (WritesMap part.now) (IsBadValue (IsMap part.now)) }
+    ensures { MatchResult result (WritesMap part.now) (IsBadValue (IsMapPart part.now)) }
 {
     let (digits, kind) = size_and_kind(part);
     Ok((size_written(digits)?, kind))
@@ -92,7 +92,7 @@ fn map_written(part: &str) -> Result<(u16, MapKind), UsageFault>
 /// The maps that the parts of a list write.
 fn maps_written(alloc: Global, parts: &[&str]) -> Result<Vec<(u16, MapKind)>, UsageFault>
     ensures ok { IfOk result (λ maps. WriteMaps parts.now maps.items) }
-    ensures err { IfErr result (IsValueFault (All (λ part. IsMap part.now) parts.now)) }
+    ensures err { IfErr result (IsOptionFault (All (λ part. IsMapPart part.now) parts.now)) }
 {
     let mut maps = Vec::new(alloc);
     for part in parts {
@@ -112,7 +112,7 @@ fn parts_of(alloc: Global, text: &str) -> Result<Vec<&str>, AllocError>
 /// The maps that a list writes.
 fn map_sizes(alloc: Global, text: &str) -> Result<MapSizes, UsageFault>
     ensures ok { IfOk result (λ sizes. IsMapList text.now × (sizes ≡ written_maps text.now)) }
-    ensures err { IfErr result (IsValueFault (IsMapList text.now)) }
+    ensures err { IfErr result (IsOptionFault (IsMapList text.now)) }
 {
     let parts = parts_of(alloc, text)?;
     let maps = maps_written(alloc, parts.as_slice())?;

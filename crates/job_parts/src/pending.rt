@@ -138,12 +138,12 @@ pub(crate) fn print_joined<W: Write>(
     out: &mut W,
     front: Pending,
     bytes: &[u8],
-    behind: &[u8],
+    following: &[u8],
 ) -> io::Result<()>
     requires front { length front.items ≤ 4 }
-    requires behind { length behind.now ≤ 5 }
+    requires following { length following.now ≤ 5 }
     ensures { OnOk result (Prints W.contents out.old out.new
-        (front.items ++ encode_upper bytes.now ++ behind.now)) }
+        (front.items ++ encode_upper bytes.now ++ following.now)) }
 {
     let mut text = front;
     let (chunks, rest) = bytes.as_chunks::<CHUNK>();
@@ -153,6 +153,6 @@ pub(crate) fn print_joined<W: Write>(
         text.clear();
     }
     push_hex(&mut text, rest);
-    push_text(&mut text, behind);
+    push_text(&mut text, following);
     out.write_all(text.as_slice())
 }

@@ -5,7 +5,7 @@ ghost use Rattle.std.specs.Str.{IsUtf8};
 ghost use Rattle.bver.specs.Justified.{IsJustified};
 ghost use Rattle.machine.specs.Runs.{IsSafe};
 ghost use Rattle.job_parts.specs.Files.{HoldsImage, HoldsNoText};
-ghost use Rattle.job_parts.specs.Reading.{IsNoImage, IsNoProgram};
+ghost use Rattle.job_parts.specs.Reading.{IsNoImage, HasNoProgram};
 ghost use Rattle.job_parts.specs.declared.faults.Fault.TheVariants.{CannotRead};
 
 use crate::faults::Fault;
@@ -88,7 +88,7 @@ pub fn program_in<'a, F: Files>(
     ensures sizes { IfOk result (λ program. program.sizes ≡ sizes) }
     ensures justified { IfOk result (λ program. IsJustified program.program sizes) }
     ensures safe { IfOk result (λ program. IsSafe program.program sizes) }
-    ensures refused { IfErr result (IsNoProgram F.reads files.old name.now sizes files.new) }
+    ensures refused { IfErr result (HasNoProgram F.reads files.old name.now sizes files.new) }
 {
     let image = image_in(alloc, files, name)?;
     Ok(verify(alloc, image, &sizes)?)

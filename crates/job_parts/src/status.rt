@@ -1,11 +1,11 @@
 //! The exit status of a job.
 
 ghost use Rattle.std.specs.Prelude.{◌≡◌};
-ghost use Rattle.job_parts.specs.Statuses.{status_code};
+ghost use Rattle.job_parts.specs.Statuses.{exit_code};
 
 /// The exit status of a job that came to its end.
 #[derive(Clone, Copy, Debug, PartialEq, Eq)]
-pub enum Status {
+pub enum ExitStatus {
     /// 0: the job was done.
     Done,
     /// 1: the job printed a fault of what it was given.
@@ -14,15 +14,15 @@ pub enum Status {
     Misused,
 }
 
-impl Status {
+impl ExitStatus {
     /// The number that the program ends with.
     pub fn code(self) -> u8
-        ensures { result ≡ status_code self }
+        ensures { result ≡ exit_code self }
     {
         match self {
-            Status::Done => 0,
-            Status::Failed => 1,
-            Status::Misused => 2,
+            ExitStatus::Done => 0,
+            ExitStatus::Failed => 1,
+            ExitStatus::Misused => 2,
         }
     }
 }

@@ -3,9 +3,9 @@
 ghost use Rattle.std.specs.Prelude.{◌≡◌, MatchResult};
 ghost use Rattle.job_parts.specs.Stops.{fault_at, halt_at};
 ghost use Rattle.job_parts.specs.declared.faults.Fault.TheVariants.{NoMemory};
-ghost use Rattle.job_parts.specs.declared.stops.Halt.TheVariants.{Ended, Unwritten};
+ghost use Rattle.job_parts.specs.declared.stops.JobStop.TheVariants.{Ended, Unwritten};
 ghost use Rattle.job_parts.specs.declared.stops.LineEnd.TheVariants.{Bad, NoMemory as OutOfMemory};
-ghost use Rattle.job_parts.specs.declared.stops.LineHalt.TheVariants.{Ended as EndedAt, Unwritten as UnwrittenAt};
+ghost use Rattle.job_parts.specs.declared.stops.LineStop.TheVariants.{Ended as EndedAt, Unwritten as UnwrittenAt};
 
 use crate::bad_lines::BadLine;
 use crate::faults::Fault;
@@ -24,14 +24,14 @@ impl From<io::Error> for WriteFault {
 
 /// Why a job stops before its end.
 #[derive(Debug, Drop)]
-pub enum Halt<'a> {
+pub enum JobStop<'a> {
     /// A fault, which is still to be printed.
     Ended(Fault<'a>),
     /// The writer failed.
     Unwritten(WriteFault),
 }
 
-impl<'a> Halt<'a> {
+impl<'a> JobStop<'a> {
     /// The fault that is still to be printed.
     ///
     /// # Errors
@@ -43,33 +43,33 @@ impl<'a> Halt<'a> {
             (λ refused. self.entry ≡ Unwritten refused) }
     {
         match self {
-            Halt::Ended(fault) => Ok(fault),
-            Halt::Unwritten(refused) => Err(refused),
+            JobStop::Ended(fault) => Ok(fault),
+            JobStop::Unwritten(refused) => Err(refused),
         }
     }
 }
 
-impl<'a> From<Fault<'a>> for Halt<'a> {
+impl<'a> From<Fault<'a>> for JobStop<'a> {
     ghost from_gives = { λ fault stop. stop ≡ Ended fault };
 
     fn from(fault: Fault<'a>) -> Self {
-        Halt::Ended(fault)
+        JobStop::Ended(fault)
     }
 }
 
-impl From<AllocError> for Halt<'_> {
+impl From<AllocError> for JobStop<'_> {
     ghost from_gives = { λ _ stop. stop ≡ Ended NoMemory };
 
     fn from(_refused: AllocError) -> Self {
-        Halt::Ended(Fault::NoMemory)
+        JobStop::Ended(Fault::NoMemory)
     }
 }
 
-impl From<io::Error> for Halt<'_> {
+impl From<io::Error> for JobStop<'_> {
     ghost from_gives = { λ _ stop. stop ≡ Unwritten (record {}) };
 
     fn from(_refused: io::Error) -> Self {
-        Halt::Unwritten(WriteFault)
+        JobStop::Unwritten(WriteFault)
     }
 }
 
@@ -96,53 +96,53 @@ impl LineEnd {
 
 /// Why a job stops at one of its lines.
 #[derive(Clone, Copy, Debug, PartialEq, Eq)]
-pub enum LineHalt {
+pub enum LineStop {
     /// What ends it, which is still to be printed.
     Ended(LineEnd),
     /// The writer failed.
     Unwritten(WriteFault),
 }
 
-impl LineHalt {
+impl LineStop {
     /// Why the job stops, if the line is the one of that number, from 1.
-    pub fn at<'a>(self, number: usize) -> Halt<'a>
+    pub fn at<'a>(self, number: usize) -> JobStop<'a>
         ensures { result ≡ halt_at number self }
     {
         match self {
-            LineHalt::Ended(end) => Halt::Ended(end.at(number)),
-            LineHalt::Unwritten(fault) => Halt::Unwritten(fault),
+            LineStop::Ended(end) => JobStop::Ended(end.at(number)),
+            LineStop::Unwritten(fault) => JobStop::Unwritten(fault),
         }
     }
 }
 
-impl From<LineEnd> for LineHalt {
+impl From<LineEnd> for LineStop {
     ghost from_gives = { λ end stop. stop ≡ EndedAt end };
 
     fn from(end: LineEnd) -> Self {
-        LineHalt::Ended(end)
+        LineStop::Ended(end)
     }
 }
 
-impl From<BadLine> for LineHalt {
+impl From<BadLine> for LineStop {
     ghost from_gives = { λ fault stop. stop ≡ EndedAt (Bad fault) };
 
     fn from(fault: BadLine) -> Self {
-        LineHalt::Ended(LineEnd::Bad(fault))
+        LineStop::Ended(LineEnd::Bad(fault))
     }
 }
 
-impl From<AllocError> for LineHalt {
+impl From<AllocError> for LineStop {
     ghost from_gives = { λ _ stop. stop ≡ EndedAt OutOfMemory };
 
     fn from(_refused: AllocError) -> Self {
-        LineHalt::Ended(LineEnd::NoMemory)
+        LineStop::Ended(LineEnd::NoMemory)
     }
 }
 
-impl From<io::Error> for LineHalt {
+impl From<io::Error> for LineStop {
     ghost from_gives = { λ _ stop. stop ≡ UnwrittenAt (record {}) };
 
     fn from(_refused: io::Error) -> Self {
-        LineHalt::Unwritten(WriteFault)
+        LineStop::Unwritten(WriteFault)
     }
 }

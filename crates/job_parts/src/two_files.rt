@@ -1,7 +1,7 @@
 //! What jobs on two files share, an old one and a new one.
 
 ghost use Rattle.std.specs.Prelude.{◌≡◌, OnOk};
-ghost use Rattle.job_parts.specs.TwoFiles.{TellsNamedFault, are_one_input};
+ghost use Rattle.job_parts.specs.TwoFiles.{PrintsNamedFault, are_one_input};
 
 use policy_table::TextFault;
 use std::io::{self, Write};
@@ -23,7 +23,7 @@ pub fn are_one_input(old: &str, new: &str) -> bool
 /// The error of `out`, if it does not take all of the text.
 pub fn print_named_fault<W: Write>(out: &mut W, name: &str, fault: &TextFault) -> io::Result<()>
     ensures { OnOk result
-        (TellsNamedFault name.now fault.now (W.contents out.old) (W.contents out.new)) }
+        (PrintsNamedFault name.now fault.now (W.contents out.old) (W.contents out.new)) }
 {
     let code = fault.fault().code();
     writeln!(out, "policy fault {code}")?;

@@ -19,7 +19,7 @@ use Rattle.ports.specs.declared.worker.Report.{Report}
 use Rattle.ports.specs.declared.worker.Worker.{Worker}
 use Rattle.job_ports.specs.Arrivals.{ArriveAll}
 use Rattle.job_ports.specs.Ends.{PortEnd}
-use Rattle.job_ports.specs.Queues.{AreBeginnings, AreFew, AreOfPorts, IsBeginning, IsDesk, ServeEach}
+use Rattle.job_ports.specs.Queues.{AreTakenBeginnings, AreFew, AreOfPorts, IsBeginning, IsDesk, ServeEach}
 use Rattle.job_ports.specs.Quotas.{AreSeated, IsSeated}
 use Rattle.job_ports.specs.ServedFile.{BeginOneHistory, EndsSo, ServePackets, no_replies}
 
@@ -30,9 +30,9 @@ packet_first other (Data packet ∷ items) = packet
 packet_first other (Mark ∷ items) = other
 
 -- the items after the first
-abbrev behind : List Item → List Item
-behind [] = []
-behind (item ∷ items) = items
+abbrev following : List Item → List Item
+following [] = []
+following (item ∷ items) = items
 
 -- Packets up to the first end mark are the same in both.
 up_to_mark : (all taken : List Cargo) (rest : List Item) → map Data all ++ Mark ∷ [] ≡ (map Data taken ++ Mark ∷ []) ++ rest → all ≡ taken
@@ -40,7 +40,7 @@ up_to_mark [] [] rest is = refl
 up_to_mark [] (packet ∷ taken) rest is = absurd (cc is)
 up_to_mark (packet ∷ all) [] rest is = absurd (cc is)
 up_to_mark (packet ∷ all) (other ∷ taken) rest is =
-    ap₂ (λ (p : Cargo) (l : List Cargo). p ∷ l) (ap (packet_first packet) is) (up_to_mark all taken rest (ap behind is))
+    ap₂ (λ (p : Cargo) (l : List Cargo). p ∷ l) (ap (packet_first packet) is) (up_to_mark all taken rest (ap following is))
 
 -- A worker that took a beginning of what was put, up to the end mark, took all of it.
 pub served_all : {J : Type 0} (sent : SinkValue → List SentReply) (failed : SinkValue → ℕ) (old new : Worker J SinkValue) (report : Report) (all : List Cargo) (put : List Item)
@@ -115,7 +115,7 @@ module _ {J : Type 0} {starts : ℕ → Standing} {ports : ℕ} {by_port : List 
     }
 
     -- what each port's worker did with its packets
-    served_at : AreBeginnings puts left → (k : ℕ) (put : PutPass) (serve : ServePass) (worker : Worker J SinkValue) (report : Report) → k < ports
+    served_at : AreTakenBeginnings puts left → (k : ℕ) (put : PutPass) (serve : ServePass) (worker : Worker J SinkValue) (report : Report) → k < ports
         → HasServed sent failed (starts k) (standing_of (slice_index_or left k worker)) no_replies (slice_index_or left k worker).sink (slice_index_or by_port k []) (slice_index_or served.reports k report)
     served_at begins k put serve worker report low =
         let old : Worker J SinkValue = slice_index_or workers k worker in
@@ -162,10 +162,10 @@ ends_history {J} left reports many history = record {
 -- What became of each port.
 pub serve_each : {J : Type 0} {starts : ℕ → Standing} {ports : ℕ} {by_port : List (List Cargo)} {banks : ℕ} {queues : List Port} {puts : List PutPass} {workers : List (Worker J SinkValue)}
     (desk : IsDesk starts ports by_port banks queues puts workers) (left : List (Worker J SinkValue)) (sinks : List SinkValue) (total : Report)
-    → HaveServed (λ (s : SinkValue). s.sent) (λ (s : SinkValue). s.failed) banks queues workers left total → AreBeginnings puts left
+    → HaveServed (λ (s : SinkValue). s.sent) (λ (s : SinkValue). s.failed) banks queues workers left total → AreTakenBeginnings puts left
     → sinks ≡ map (λ (w : Worker J SinkValue). w.sink) left → ServeEach starts ports by_port sinks total
 serve_each {J} {starts} {ports} {by_port} {banks} {queues} {puts} {workers} desk left sinks total served begins is =
-    let many : length served.reports ≡ length left = served.told ∙ sym served.len in
+    let many : length served.reports ≡ length left = served.reported ∙ sym served.len in
     let count : length left ≡ ports = served.len ∙ desk.workers_count in
     record {
       ends = ends_of left served.reports;
@@ -184,7 +184,7 @@ serve_each {J} {starts} {ports} {by_port} {banks} {queues} {puts} {workers} desk
 -- These are the ends of the ports.
 pub each_ends : {J : Type 0} {starts : ℕ → Standing} {ports : ℕ} {by_port : List (List Cargo)} {banks : ℕ} {queues : List Port} {puts : List PutPass} {workers : List (Worker J SinkValue)}
     (desk : IsDesk starts ports by_port banks queues puts workers) (left : List (Worker J SinkValue)) (sinks : List SinkValue) (total : Report)
-    → (served : HaveServed (λ (s : SinkValue). s.sent) (λ (s : SinkValue). s.failed) banks queues workers left total) (begins : AreBeginnings puts left)
+    → (served : HaveServed (λ (s : SinkValue). s.sent) (λ (s : SinkValue). s.failed) banks queues workers left total) (begins : AreTakenBeginnings puts left)
     (is : sinks ≡ map (λ (w : Worker J SinkValue). w.sink) left) → (serve_each desk left sinks total served begins is).ends ≡ ends_of left served.reports
 unfolding serve_each
 each_ends desk left sinks total served begins is = refl
@@ -192,7 +192,7 @@ each_ends desk left sinks total served begins is = refl
 -- They share that list.
 pub each_whole : {J : Type 0} {starts : ℕ → Standing} {ports : ℕ} {by_port : List (List Cargo)} {banks : ℕ} {queues : List Port} {puts : List PutPass} {workers : List (Worker J SinkValue)}
     (desk : IsDesk starts ports by_port banks queues puts workers) (left : List (Worker J SinkValue)) (sinks : List SinkValue) (total : Report)
-    → (served : HaveServed (λ (s : SinkValue). s.sent) (λ (s : SinkValue). s.failed) banks queues workers left total) (begins : AreBeginnings puts left)
+    → (served : HaveServed (λ (s : SinkValue). s.sent) (λ (s : SinkValue). s.failed) banks queues workers left total) (begins : AreTakenBeginnings puts left)
     (is : sinks ≡ map (λ (w : Worker J SinkValue). w.sink) left) → (serve_each desk left sinks total served begins is).history.whole ≡ served.history.whole
 unfolding serve_each ends_history
 each_whole desk left sinks total served begins is = refl

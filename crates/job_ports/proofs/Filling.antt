@@ -8,12 +8,12 @@ use Rattle.ports.specs.declared.item.Item.TheVariants.{Data, Mark}
 use Rattle.ports.specs.declared.port.Port.{Port}
 use Rattle.ports.specs.declared.port.PutPass.{PutPass}
 use Rattle.ports.specs.declared.port.ServePass.{ServePass}
-use Rattle.job_ports.specs.Queues.{AreFew, AreFilled, IsFilled}
+use Rattle.job_ports.specs.Queues.{AreFew, AreFilled, IsQueueFilled}
 use Rattle.lemmas.proofs.Pairs.{paired}
 
 -- One port more.
 filled_more : (by_port : List (List Cargo)) (ports : List Port) (puts : List PutPass) (serves : List ServePass) (packets : List Cargo) (port : Port) (put : PutPass) (serve : ServePass)
-    → AreFilled by_port ports puts serves → IsFilled packets port put serve → AreFilled (by_port ++ packets ∷ []) (ports ++ port ∷ []) (puts ++ put ∷ []) (serves ++ serve ∷ [])
+    → AreFilled by_port ports puts serves → IsQueueFilled packets port put serve → AreFilled (by_port ++ packets ∷ []) (ports ++ port ∷ []) (puts ++ put ∷ []) (serves ++ serve ∷ [])
 filled_more by_port ports puts serves packets port put serve was is =
     let many = length-append by_port (packets ∷ []) in record {
       ports_count = omega (arith, was.ports_count, many, length-append ports (port ∷ []));
@@ -27,7 +27,7 @@ filled_more by_port ports puts serves packets port put serve was is =
 
 -- One port more, if each list grew.
 pub fills_more : {by_port by_port' : List (List Cargo)} {ports ports' : List Port} {puts puts' : List PutPass} {serves serves' : List ServePass} {packets : List Cargo} {port : Port} {put : PutPass} {serve : ServePass}
-    → AreFilled by_port ports puts serves → IsFilled packets port put serve
+    → AreFilled by_port ports puts serves → IsQueueFilled packets port put serve
     → by_port' ≡ by_port ++ packets ∷ [] → ports' ≡ ports ++ port ∷ [] → puts' ≡ puts ++ put ∷ [] → serves' ≡ serves ++ serve ∷ []
     → AreFilled by_port' ports' puts' serves'
 fills_more {by_port} {by_port'} {ports} {ports'} {puts} {puts'} {serves} {serves'} {packets} {port} {put} {serve} was is a b c d =

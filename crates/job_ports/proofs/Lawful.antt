@@ -102,7 +102,7 @@ module _ {J : Type 0} {own : OwnNodeValue} {program : AcceptedValue} {by_port : 
     last_is : (port : ℕ) (worker : Worker J SinkValue) → port < own.ports → (accounts port).last ≡ standing_of (slice_index_or left port worker)
     last_is port worker low =
         let report : Report = record { discarded = 0; lost = 0 } in
-        let at = end_at left served.reports port worker report (end_of worker report) (served.told ∙ sym served.len) (omega (arith, low, left_count)) in
+        let at = end_at left served.reports port worker report (end_of worker report) (served.reported ∙ sym served.len) (omega (arith, low, left_count)) in
         (are port (end_of worker report) low).last ∙ ap (λ (end : PortEnd). standing end.pass end.front) at
 
     -- the port of a worker is that of its place

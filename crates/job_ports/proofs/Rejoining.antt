@@ -8,7 +8,7 @@ use Rattle.ports.specs.Sinks.{SinkValue}
 use Rattle.ports.specs.declared.port.Port.{Port}
 use Rattle.ports.specs.declared.port.PutPass.{PutPass}
 use Rattle.ports.specs.declared.worker.Worker.{Worker}
-use Rattle.job_ports.specs.Queues.{AreBeginnings, AreOfPorts, IsBeginning}
+use Rattle.job_ports.specs.Queues.{AreTakenBeginnings, AreOfPorts, IsBeginning}
 use Rattle.lemmas.proofs.Pairs.{last}
 
 -- An element is the same whatever is put in the place of those that are not there.
@@ -23,7 +23,7 @@ pub record AreRejoined {J : Type 0} (ports : List Port) (first puts : List PutPa
   pub same : (k : ℕ) (put_pass : PutPass) → k < length first → put_of (slice_index_or puts k put_pass) ≡ put_of (slice_index_or first k put_pass)
   pub own : (k : ℕ) (port : Port) (put_pass : PutPass) → k < length ports → IsPutPassOf (slice_index_or ports k port) (slice_index_or puts k put_pass)
   pub sinks_are : sinks ≡ map (λ (w : Worker J SinkValue). w.sink) done
-  pub begins : AreBeginnings first done
+  pub begins : AreTakenBeginnings first done
 
 -- None was yet.
 pub none_rejoined : {J : Type 0} (ports : List Port) (puts : List PutPass) (workers : List (Worker J SinkValue)) → AreOfPorts ports puts workers → AreRejoined {J = J} ports puts puts [] []

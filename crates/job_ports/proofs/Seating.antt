@@ -78,9 +78,9 @@ quotas_are_kept {J} law sizes ports first last left reports many count few fresh
     let all : calls_back last ≡ calls_at runs =
     back.calls ∙ (ap (λ (l : List Call). l ++ asked_of left) none ∙ (sym (calls_by_workers left reports many) ∙ sym (calls_by_ends runs (ends_of left reports) runs_are))) in
     let maps : sizes ≡ last.sizes = sym (back.sizes ∙ ap (λ (it : CellsValue). it.sizes) fresh) in
-    let told = numbered whole m key (subst (λ (s : Maps). IsInside s m key) maps inside) (subst (λ (s : Maps). kind_of_map s m ≡ Counter) maps kind) in
+    let reported = numbered whole m key (subst (λ (s : Maps). IsInside s m key) maps inside) (subst (λ (s : Maps). kind_of_map s m ≡ Counter) maps kind) in
     let few_drawn : length (tickets_of m key (calls_back last)) < 2 ^ 64 = subst (λ (l : List Call). length (tickets_of m key l) < 2 ^ 64) (sym all) drawn in
-    law last runs m key limit told.0 n all told.1 few_drawn matched
+    law last runs m key limit reported.0 n all reported.1 few_drawn matched
 
 module _ {J : Type 0} {own : OwnNodeValue} {program : AcceptedValue} {by_port : List (List Cargo)} {banks : ℕ} {first : CellsValue} {queues : List Port} {puts : List PutPass} {workers : List (Worker J SinkValue)}
     (desk : IsOwnDesk own program by_port banks first queues puts workers) where
@@ -93,4 +93,4 @@ module _ {J : Type 0} {own : OwnNodeValue} {program : AcceptedValue} {by_port : 
       → (served : HaveServed (λ (s : SinkValue). s.sent) (λ (s : SinkValue). s.failed) banks queues workers left total) → AreTakenBack first last left → (last.parts ≡ 256 → AreAllNumbered last)
       → QuotasAreKept own.sizes (ends_of left served.reports)
   own_quotas law last left total served back numbered =
-      quotas_are_kept law own.sizes own.ports first last left served.reports (served.told ∙ sym served.len) (served.len ∙ desk.desk.workers_count) (omega (arith, desk.few)) desk.cells_are back numbered
+      quotas_are_kept law own.sizes own.ports first last left served.reports (served.reported ∙ sym served.len) (served.len ∙ desk.desk.workers_count) (omega (arith, desk.few)) desk.cells_are back numbered

@@ -41,11 +41,11 @@ fit_count (b ∷ bs) [] is = absurd (cc is)
 fit_count (b ∷ bs) (c ∷ cs) is = ap (λ n. suc n) (fit_count bs cs (and_parts (nat_le (length c) b.size) (fit bs cs) is).1)
 
 -- what banks begin with, over equal lists
-pub sets_own : (banks shown : List BankConfig) (contents told : List (List ℕ)) (known reached : List Link) → shown ≡ banks → told ≡ contents → known ≡ []
-    → SetsAll shown told (length shown) known reached → SetsAll banks contents (length banks) [] reached
-sets_own banks shown contents told known reached same also none all =
+pub sets_own : (banks shown : List BankConfig) (contents reported : List (List ℕ)) (known reached : List Link) → shown ≡ banks → reported ≡ contents → known ≡ []
+    → SetsAll shown reported (length shown) known reached → SetsAll banks contents (length banks) [] reached
+sets_own banks shown contents reported known reached same also none all =
     subst (λ (k : List Link). SetsAll banks contents (length banks) k reached) none
-    (subst (λ (l : List (List ℕ)). SetsAll banks l (length banks) known reached) also (subst (λ (l : List BankConfig). SetsAll l told (length l) known reached) same all))
+    (subst (λ (l : List (List ℕ)). SetsAll banks l (length banks) known reached) also (subst (λ (l : List BankConfig). SetsAll l reported (length l) known reached) same all))
 
 -- ---- where banks are
 
@@ -103,9 +103,9 @@ banks_within banks is = (and_parts (nat_le 1 (length banks) && nat_le (length ba
 -- what was found at the place of that number: the bank covers the bytes, and is within its limits
 pub covered_found : (shown : List BankValue) (banks : List BankConfig) (contents : List (List ℕ)) (k place : ℕ) (d bank : BankConfig) (bytes : List ℕ) → map extent_of shown ≡ map range_of banks → fit banks contents ≡ true
     → k < length banks → place ≡ k → bank ≡ get_or banks place d → bytes ≡ slice_index_or contents place [] → covers_at shown k bank.base (length bytes) ≡ true
-covered_found shown banks contents k place d bank bytes are fits low at own told =
+covered_found shown banks contents k place d bank bytes are fits low at own reported =
     ap (λ (b : BankConfig). covers_at shown k b.base (length bytes)) (own ∙ ap (λ (i : ℕ). get_or banks i d) at)
-    ∙ ap (λ (l : List ℕ). covers_at shown k (get_or banks k d).base (length l)) (told ∙ ap (λ (i : ℕ). slice_index_or contents i []) at)
+    ∙ ap (λ (l : List ℕ). covers_at shown k (get_or banks k d).base (length l)) (reported ∙ ap (λ (i : ℕ). slice_index_or contents i []) at)
     ∙ contents_covered shown banks contents k d are fits low
 
 pub within_found : (banks : List BankConfig) (place : ℕ) (d bank : BankConfig) → are_within banks ≡ true → place < length banks → bank ≡ get_or banks place d → is_within bank ≡ true

@@ -10,7 +10,7 @@ use Rattle.spw.specs.Cargo.{Cargo}
 use Rattle.ports.specs.Due.{Standing, Worked, standing}
 use Rattle.sched.specs.Looking.{Node}
 use Rattle.lawful.specs.Alone.{AreDealtInFull}
-use Rattle.lawful.specs.Together.{Account, HaveLawfulHistory, IsBankOf, published_first}
+use Rattle.lawful.specs.Together.{Account, HaveLawfulHistory, IsBankOfPorts, published_first}
 use Rattle.job_config.specs.OwnNodes.{OwnNodeValue}
 use Rattle.job_nodes.specs.Beginning.{own_schedule}
 use Rattle.job_ports.specs.Ends.{PortEnd}
@@ -37,7 +37,7 @@ pub record IsInFull (n : Node) (account : Account) : Type 0 where
 -- each bank. It has of others than the ports only that the instrument published these programs
 pub record IsServedInFull (n : Node) (programs : List Publish) (accounts : ℕ → Account) (whole : List Link) : Type 0 where
   pub each : (port : ℕ) → port < n.ports → IsInFull n (accounts port)
-  pub banks : (k : ℕ) (bank : BankConfig) → slice_get n.banks k ≡ Some bank → IsBankOf k bank whole
+  pub banks : (k : ℕ) (bank : BankConfig) → slice_get n.banks k ≡ Some bank → IsBankOfPorts k bank whole
   pub opening : done_for instrument whole ≡ map published_first programs
   pub others : (owner : ℕ) → n.ports ≤ owner → (owner ≡ instrument → ⊥) → done_for owner whole ≡ []
 

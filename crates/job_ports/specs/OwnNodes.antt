@@ -6,12 +6,12 @@ use Rattle.job_config.specs.OwnNodes.{OwnNodeValue, plain_node}
 use Rattle.job_config.specs.Reads.{ReadsNode}
 use Rattle.job_config.specs.declared.sources.NodeSource.{NodeSource}
 use Rattle.job_config.specs.declared.sources.NodeSource.TheVariants.{File, Words}
-use Rattle.job_parts.specs.Files.{Reads}
+use Rattle.job_parts.specs.Files.{ReadsFile}
 use Rattle.job_parts.specs.Given.{HoldsProgram}
 use Rattle.job_parts.specs.Options.{image_name}
 use Rattle.job_parts.specs.declared.options.NodeWords.{NodeWords}
 
-module _ {S : Type 0} (reads : Reads S) where
+module _ {S : Type 0} (reads : ReadsFile S) where
   -- the node is that of the words, with the program that its files give, which is justified on it, and so safe
   pub record IsPlainOwn (words : NodeWords) (before : S) (own : OwnNodeValue) (program : AcceptedValue) (after : S) : Type 0
     where

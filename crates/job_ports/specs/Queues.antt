@@ -29,7 +29,7 @@ AreFew by_port = (port : ℕ) → port < length by_port → length (slice_index_
 
 -- these packets and then the end mark were put into the queue of the port, and nothing was taken; the passes
 -- are its own
-pub record IsFilled (packets : List Cargo) (port : Port) (put_pass : PutPass) (serve_pass : ServePass) : Type 0 where
+pub record IsQueueFilled (packets : List Cargo) (port : Port) (put_pass : PutPass) (serve_pass : ServePass) : Type 0 where
   pub puts : IsPutPassOf port put_pass
   pub serves : IsServePassOf port serve_pass
   pub put : put_of put_pass ≡ map Data packets ++ Mark ∷ []
@@ -102,8 +102,8 @@ pub record AreOfPorts {J : Type 0} (ports : List Port) (put_passes : List PutPas
       → IsServePassOf (slice_index_or ports k port) (slice_index_or workers k worker).serve_pass
 
 -- what the worker at each place took is a beginning of what was put at that place
-abbrev pub AreBeginnings : {J : Type 0} → List PutPass → List (Worker J SinkValue) → Type 0
-AreBeginnings {J} put_passes workers =
+abbrev pub AreTakenBeginnings : {J : Type 0} → List PutPass → List (Worker J SinkValue) → Type 0
+AreTakenBeginnings {J} put_passes workers =
     (k : ℕ) (put_pass : PutPass) (worker : Worker J SinkValue) → k < length workers
     → IsBeginning (taken_of (slice_index_or workers k worker).serve_pass)
     (put_of (slice_index_or put_passes k put_pass))

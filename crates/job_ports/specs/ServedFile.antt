@@ -12,14 +12,14 @@ use Rattle.ports.specs.Serves.{total_of}
 use Rattle.ports.specs.Sinks.{SinkValue, replies_in}
 use Rattle.ports.specs.Worked.{HasServed}
 use Rattle.ports.specs.declared.worker.Report.{Report}
-use Rattle.job_parts.specs.Files.{Reads}
+use Rattle.job_parts.specs.Files.{ReadsFile}
 use Rattle.job_parts.specs.declared.bad_lines.BadLine.{BadLine}
 use Rattle.job_parts.specs.declared.faults.Fault.{Fault}
 use Rattle.job_parts.specs.declared.faults.Fault.TheVariants.{BadLine as AtLine, NoMemory}
 use Rattle.job_config.specs.OwnNodes.{OwnNodeValue}
 use Rattle.job_config.specs.declared.node_lines.NodeLines.{NodeLines}
 use Rattle.job_nodes.specs.Judged.{IsNotReady}
-use Rattle.job_ports.specs.Arrivals.{AreLines, BreaksAt, packets_at}
+use Rattle.job_ports.specs.Arrivals.{AreArrivalLines, BreaksAt, packets_at}
 use Rattle.job_ports.specs.Ends.{PortEnd}
 use Rattle.job_ports.specs.Law.{IsOneLawfulHistory}
 use Rattle.job_ports.specs.OwnNodes.{HoldsOwn}
@@ -61,10 +61,10 @@ abbrev pub report_of : List PortEnd → Report
 report_of ends = total_of (map (λ (end : PortEnd). end.report) ends)
 
 -- the replies of each port in order, port by port, and what the workers reported
-abbrev pub served_text : List PortEnd → List ℕ
-served_text ends = lines_from 0 (replies_of ends) ++ report_line (report_of ends)
+abbrev pub ports_served_text : List PortEnd → List ℕ
+ports_served_text ends = lines_from 0 (replies_of ends) ++ report_line (report_of ends)
 
-module _ {S : Type 0} (reads : Reads S) (args : NodeLines) where
+module _ {S : Type 0} (reads : ReadsFile S) (args : NodeLines) where
   -- the text is that of the file of lines, which is UTF-8. The node, which was read after it, and its program are those
   -- of these arguments
   pub record AreGiven (before : S) (text : List ℕ) (own : OwnNodeValue) (program : AcceptedValue) (after : S) : Type 0 where
@@ -82,7 +82,7 @@ module _ {S : Type 0} (reads : Reads S) (args : NodeLines) where
     pub packets : List (ℕ × Cargo)
     pub starts : ℕ → Standing
     pub given : AreGiven before text own program after
-    pub lines : AreLines (lines_of text) own.ports packets
+    pub lines : AreArrivalLines (lines_of text) own.ports packets
     pub are_starts : AreStarts own program starts
     pub served : ServePackets starts own.ports packets ends
     pub law : IsOneLawfulHistory own program starts (λ port. packets_at port packets) ends served.history.whole
@@ -99,10 +99,10 @@ module _ {S : Type 0} (reads : Reads S) (args : NodeLines) where
   pub record ServesFile (before after : S) (old new : Option (List ℕ)) : Type 0 where
     pub ends : List PortEnd
     pub serves : ServesLines before after ends
-    pub printed : Appends old new (served_text ends)
+    pub printed : Appends old new (ports_served_text ends)
 
   -- lines and node were read, and a line is bad
-  pub record HasBadLine (before after : S) (fault : Fault) : Type 0 where
+  pub record HasBadServedLine (before after : S) (fault : Fault) : Type 0 where
     pub text : List ℕ
     pub own : OwnNodeValue
     pub program : AcceptedValue
@@ -113,7 +113,7 @@ module _ {S : Type 0} (reads : Reads S) (args : NodeLines) where
     pub is_fault : fault ≡ AtLine number bad
 
   -- lines and node were read, and memory or a thread was refused
-  pub record LacksMemory (before after : S) (fault : Fault) : Type 0 where
+  pub record LacksServeMemory (before after : S) (fault : Fault) : Type 0 where
     pub text : List ℕ
     pub own : OwnNodeValue
     pub program : AcceptedValue
@@ -123,4 +123,4 @@ module _ {S : Type 0} (reads : Reads S) (args : NodeLines) where
   -- why the ports were not served: lines or node cannot be read, a line is bad, or memory was refused
   abbrev pub IsNotServed : (before after : S) → Fault → Type 0
   IsNotServed before after fault =
-      IsNotReady reads args before after fault ⊎ HasBadLine before after fault ⊎ LacksMemory before after fault
+      IsNotReady reads args before after fault ⊎ HasBadServedLine before after fault ⊎ LacksServeMemory before after fault

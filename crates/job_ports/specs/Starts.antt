@@ -4,7 +4,7 @@ use base.Stored.{Gv}
 use Rattle.annals.specs.declared.deed.Act.TheVariants.{Sets}
 use Rattle.annals.specs.declared.deed.Deed.TheVariants.{Does}
 use Rattle.annals.specs.declared.deed.Link.{Link}
-use Rattle.annals.specs.Chains.{IsLast}
+use Rattle.annals.specs.Chains.{IsLastDeed}
 use Rattle.bver.specs.Justified.{AcceptedValue}
 use Rattle.node_parts.specs.declared.config.BankConfig.{BankConfig}
 use Rattle.node_parts.specs.declared.config.NodeConfig.{NodeConfig}
@@ -17,7 +17,7 @@ use Rattle.job_config.specs.OwnNodes.{IsConfigOf, OwnNodeValue}
 -- somebody who knew this of the history put bytes at an address of the bank of that number, as its instrument. That is
 -- the last that he knows then
 abbrev pub SetsBank : (number address : ℕ) → (bytes : List ℕ) → (known reached : List Link) → Type 0
-SetsBank number address bytes known reached = IsLast number known reached (Does (Sets (address, bytes)))
+SetsBank number address bytes known reached = IsLastDeed number known reached (Does (Sets (address, bytes)))
 
 -- the same, if there are bytes; no bytes change nothing
 abbrev pub SetsFirst : (number address : ℕ) → (bytes : List ℕ) → (known reached : List Link) → Type 0

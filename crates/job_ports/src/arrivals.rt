@@ -2,7 +2,7 @@
 
 ghost use Rattle.std.specs.Prelude.{◌≡◌, ◌<◌, ◌++◌, ◌∷◌, ◌↔◌, [], IfOk, IsTrue, OnOk, length, map, replicate, slice_index_or, slice_set};
 ghost use Rattle.std.specs.Vec.{vec_items};
-ghost use Rattle.job_ports.specs.Arrivals.{HasRoom};
+ghost use Rattle.job_ports.specs.Arrivals.{HasRoomToArrive};
 
 use ports::MAX_CAPACITY;
 use spw::Packet;
@@ -42,7 +42,7 @@ impl Arrivals {
 
     /// Whether there is such a port, and fewer packets came to it than it may have.
     pub(crate) fn has_room(&self, port: u8) -> bool
-        ensures { IsTrue result ↔ HasRoom port self.now }
+        ensures { IsTrue result ↔ HasRoomToArrive port self.now }
     {
         let place = usize::from(port);
         place < self.packets.len() && self.packets[place].len() < MOST_PACKETS

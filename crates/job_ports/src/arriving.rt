@@ -8,7 +8,7 @@ ghost use Rattle.spw.specs.Line.{lines_of};
 use crate::arrivals::Arrivals;
 use job_nodes::feeds::Feeds;
 use job_parts::bad_lines::BadLine;
-use job_parts::stops::{Halt, LineHalt};
+use job_parts::stops::{JobStop, LineStop};
 use job_parts::turns::{TakesLines, take_lines};
 use std::alloc::Global;
 use std::io::{self, Write};
@@ -22,18 +22,18 @@ pub struct Arriving {
 }
 
 impl TakesLines for Arriving {
-    ghost use Rattle.job_ports.specs.Arriving.{Arrives, IsRefused};
+    ghost use Rattle.job_ports.specs.Arriving.{Arrives, IsLineRefused};
 
     ghost takes = { Arrives };
 
-    ghost stops = { IsRefused };
+    ghost stops = { IsLineRefused };
 
-    fn take<W: Write>(&mut self, alloc: Global, line: &str, _out: &mut W) -> Result<(), LineHalt> {
+    fn take<W: Write>(&mut self, alloc: Global, line: &str, _out: &mut W) -> Result<(), LineStop> {
         let Some((port, packet)) = self.feeds.take_line(alloc, line)? else {
             return Ok(());
         };
         if !self.arrivals.has_room(port) {
-            return Err(LineHalt::from(BadLine::NoRoom));
+            return Err(LineStop::from(BadLine::NoRoom));
         }
         self.arrivals.add(port, packet)?;
         Ok(())
@@ -49,7 +49,7 @@ impl TakesLines for Arriving {
 /// The fault of the first line that has one, with the number of the line. On one line the faults are found in this
 /// order: those of [`Feeds::take_line`], and `NoRoom` if it ends a packet of a port to which 1,023 came before.
 /// `NoMemory` if memory was refused for a packet that was read.
-pub fn read_lines<'a>(alloc: Global, text: &str, ports: u8) -> Result<Arrivals, Halt<'a>>
+pub fn read_lines<'a>(alloc: Global, text: &str, ports: u8) -> Result<Arrivals, JobStop<'a>>
     ensures arrive { IfOk result (ArriveAll (lines_of text.now) ports) }
     ensures refused { IfErr result (StopsBy (AreNotTaken (lines_of text.now) ports)) }
 {

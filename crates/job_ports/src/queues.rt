@@ -1,10 +1,10 @@
 //! Packets that wait in the queues of a node's ports, and what its workers do with them.
 
 ghost use Rattle.std.specs.Prelude.{◌≡◌, ◌<◌, ◌≤◌, ◌↔◌, ℕ, IfOk, IsTrue, OnOk, length, map, slice_index_or, vec_len, zip};
-ghost use Rattle.cells.specs.Seats.{IsWhole};
+ghost use Rattle.cells.specs.Seats.{AreSeatsBack};
 ghost use Rattle.machine.specs.Sizes.{kind_of_map};
 ghost use Rattle.machine.specs.declared.kinds.MapKind.TheVariants.{Counter};
-ghost use Rattle.job_ports.specs.Queues.{AreBeginnings, AreFew, AreFilled, AreOfPorts, IsFilled, IsOwnDesk, ServeOwn, new_worker};
+ghost use Rattle.job_ports.specs.Queues.{AreTakenBeginnings, AreFew, AreFilled, AreOfPorts, IsQueueFilled, IsOwnDesk, ServeOwn, new_worker};
 ghost use Rattle.job_ports.specs.Quotas.{AreAllNumbered, AreNumberedIn, AreSeated, AreTakenBack, IsNumberedAt, IsSeated, IsTakenBack};
 ghost use Rattle.ports.specs.Serves.{AreServed};
 ghost use Rattle.ports.specs.Sinks.{SinkValue};
@@ -25,7 +25,7 @@ use spw::Packet;
 use std::alloc::{AllocError, Global};
 use std::sync::Wait;
 use std::thread::Threads;
-use target::{Family, Front, Node, Opened, Pass, UnsharedNode};
+use target::{Family, Front, Node, NodeHistory, Pass, UnsharedNode};
 
 /// A port whose queue holds these packets and then the end mark, what puts into it, and what takes from it.
 fn filled<R: Wait>(
@@ -34,7 +34,7 @@ fn filled<R: Wait>(
     packets: Vec<Packet>,
 ) -> Result<(Port, PutPass, ServePass), AllocError>
     requires { vec_len packets ≤ 1023 }
-    ensures { IfOk result (λ made. IsFilled packets.items made.0 made.1 made.2) }
+    ensures { IfOk result (λ made. IsQueueFilled packets.items made.0 made.1 made.2) }
 {
     let (port, mut put_pass, serve_pass) = Port::new(alloc, MAX_CAPACITY)?;
     for packet in packets {
@@ -116,7 +116,7 @@ fn sinks_of<J: Family>(
     requires seats { AreSeated cells.old workers.items }
     ensures back { IfOk result (λ _. AreTakenBack cells.old cells.new workers.items) }
     ensures sinks { IfOk result (λ sinks. sinks.items ≡ map (λ w. w.sink) workers.items) }
-    ensures all { IfOk result (λ _. AreBeginnings put_passes.items workers.items) }
+    ensures all { IfOk result (λ _. AreTakenBeginnings put_passes.items workers.items) }
 {
     let mut sinks = Vec::with_capacity(alloc, workers.len())?;
     for worker in workers {
@@ -146,10 +146,10 @@ fn counts(sizes: &MapSizes, map: u8) -> bool
 }
 
 /// How many tickets were drawn from a cell that counts.
-fn tell_cell(cells: &mut Cells, sizes: &MapSizes, map: u8, key: u16)
+fn print_cell_tickets(cells: &mut Cells, sizes: &MapSizes, map: u8, key: u16)
     requires { sizes.now ≡ cells.old.sizes }
     ensures same { cells.new ≡ cells.old }
-    ensures numbered { IsWhole cells.old → IsNumberedAt cells.old map key }
+    ensures numbered { AreSeatsBack cells.old → IsNumberedAt cells.old map key }
 {
     if sizes.contains(map, key) && counts(sizes, map) {
         cells.drawn(map, key);
@@ -157,27 +157,27 @@ fn tell_cell(cells: &mut Cells, sizes: &MapSizes, map: u8, key: u16)
 }
 
 /// How many tickets were drawn from each cell of a map that counts.
-fn tell_map(cells: &mut Cells, sizes: &MapSizes, map: u8)
+fn print_map_tickets(cells: &mut Cells, sizes: &MapSizes, map: u8)
     requires { sizes.now ≡ cells.old.sizes }
     ensures same { cells.new ≡ cells.old }
-    ensures numbered { IsWhole cells.old → AreNumberedIn cells.old map }
+    ensures numbered { AreSeatsBack cells.old → AreNumberedIn cells.old map }
 {
     let Some(count) = sizes.cells(map) else {
         return;
     };
     for key in 0..count {
-        tell_cell(cells, sizes, map, key);
+        print_cell_tickets(cells, sizes, map, key);
     }
 }
 
 /// How many tickets were drawn from each cell that counts. If every seat came back, their tickets are numbered.
-fn tell_tickets(cells: &mut Cells, sizes: &MapSizes)
+fn print_tickets(cells: &mut Cells, sizes: &MapSizes)
     requires { sizes.now ≡ cells.old.sizes }
     ensures same { cells.new ≡ cells.old }
-    ensures numbered { IsWhole cells.old → AreAllNumbered cells.old }
+    ensures numbered { AreSeatsBack cells.old → AreAllNumbered cells.old }
 {
     for map in 0..sizes.maps() {
-        tell_map(cells, sizes, map);
+        print_map_tickets(cells, sizes, map);
     }
 }
 
@@ -196,7 +196,7 @@ struct Desks<J: Family, R: Wait + Drop> {
 fn own_desks<'r, J: Family, R: Wait>(
     rt: &'r R,
     alloc: Global,
-    opened: Opened,
+    opened: NodeHistory,
     own: &OwnNode,
     program: Accepted,
     arrivals: Arrivals,
@@ -253,7 +253,7 @@ fn own_desks<'r, J: Family, R: Wait>(
 pub fn serve_arrivals<J: Family + Send + Sync + 'static, R: Threads + Wait + Sync>(
     rt: &R,
     alloc: Global,
-    opened: Opened,
+    opened: NodeHistory,
     own: &OwnNode,
     program: Accepted,
     arrivals: Arrivals,
@@ -282,6 +282,6 @@ pub fn serve_arrivals<J: Family + Send + Sync + 'static, R: Threads + Wait + Syn
         return Err(AllocError);
     };
     let sinks = sinks_of(alloc, &ports, put_passes, &mut cells, workers)?;
-    tell_tickets(&mut cells, &sizes);
+    print_tickets(&mut cells, &sizes);
     Ok((sinks, report))
 }

@@ -20,15 +20,15 @@ use job_config::reading::ReadNode;
 use job_parts::faults::Fault;
 use job_parts::programs::text_in;
 use job_parts::replies::print_reply;
-use job_parts::status::Status;
-use job_parts::stops::Halt;
+use job_parts::status::ExitStatus;
+use job_parts::stops::JobStop;
 use job_parts::storage::Files;
 use ports::{Replies, Report};
 use std::alloc::{AllocError, Global};
 use std::io::{self, Write};
 use std::sync::Wait;
 use std::thread::Threads;
-use target::{Family, Opened};
+use target::{Family, NodeHistory};
 
 /// `serve LINES [--image FILE] [--maps LIST] [--ports N]` or `serve LINES --node FILE`.
 ///
@@ -65,10 +65,10 @@ fn lines_and_own<'a, F: Files>(
 fn serve_words<'a, J: Family + Send + Sync + 'static, R: Threads + Wait + Sync, F: Files>(
     rt: &R,
     alloc: Global,
-    opened: Opened,
+    opened: NodeHistory,
     args: &'a NodeLines,
     files: &mut F,
-) -> Result<(Vec<Replies>, Report), Halt<'a>>
+) -> Result<(Vec<Replies>, Report), JobStop<'a>>
     requires { opened ≡ J.book }
     ensures served { IfOk result (λ made. ServesWords F.reads args.now files.old files.new
         made.0.items made.1) }
@@ -138,12 +138,12 @@ pub fn serve_file<
 >(
     rt: &R,
     alloc: Global,
-    opened: Opened,
+    opened: NodeHistory,
     args: &'a NodeLines,
     files: &mut F,
     out: &mut W,
     lost: &mut u64,
-) -> Result<Status, Halt<'a>>
+) -> Result<ExitStatus, JobStop<'a>>
     requires { opened ≡ J.book }
     ensures done { IfOk result (IsDoneWith (ServesFile F.reads args.now files.old files.new
         (W.contents out.old) (W.contents out.new))) }
@@ -156,5 +156,5 @@ pub fn serve_file<
     *lost = report.lost;
     print_ports(out, &sinks)?;
     print_report(out, report)?;
-    Ok(Status::Done)
+    Ok(ExitStatus::Done)
 }

@@ -4,4 +4,4 @@ mod Runs
 mod Loading
 mod Starting
 mod Trying
-mod Telling
+mod Reporting

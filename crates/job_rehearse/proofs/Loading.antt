@@ -9,13 +9,13 @@ use Rattle.bpf.specs.Program.{image_bytes}
 use Rattle.bver.specs.Justified.{AcceptedValue}
 use Rattle.node_programs.specs.Published.{generation_at, program_at}
 use Rattle.node_programs.specs.declared.publishes.Publish.{Publish}
-use Rattle.job_rehearse.specs.Loads.{AreLoaded, IsLoaded, ending_of}
-use Rattle.job_rehearse.specs.declared.loads.Ending.{Ending}
-use Rattle.job_rehearse.specs.declared.loads.Ending.TheVariants.{InPart, Loaded, LockedOut, NotLoaded}
+use Rattle.job_rehearse.specs.Loads.{AreLoaded, IsImageLoaded, ending_of}
+use Rattle.job_rehearse.specs.declared.loads.LoadEnd.{LoadEnd}
+use Rattle.job_rehearse.specs.declared.loads.LoadEnd.TheVariants.{InPart, Loaded, LockedOut, NotLoaded}
 
 -- one more slot
 pub one_more_slot : (image : List ℕ) (count : ℕ) (programs : List Publish) (slots : List ℕ) (loaded : List Bool) (slot : ℕ) (is : Bool)
-    → AreLoaded image count programs slots loaded → Decides is (IsLoaded image count programs slot)
+    → AreLoaded image count programs slots loaded → Decides is (IsImageLoaded image count programs slot)
     → AreLoaded image count programs (slots ++ slot ∷ []) (loaded ++ is ∷ [])
 one_more_slot image count programs [] [] slot is are one = (one, tt)
 one_more_slot image count programs [] (b ∷ rest) slot is are one = absurd are
@@ -28,15 +28,15 @@ no_slot image count programs slots loaded is = subst (λ (l : List Bool). AreLoa
 
 -- one more slot, at its place
 pub slot_more : (image : List ℕ) (count : ℕ) (programs : List Publish) (slots : List ℕ) (k d slot : ℕ) (before loaded : List Bool) (is : Bool) → k < length slots → slot ≡ get_or slots k d
-    → AreLoaded image count programs (take k slots) before → Decides is (IsLoaded image count programs slot) → loaded ≡ before ++ is ∷ []
+    → AreLoaded image count programs (take k slots) before → Decides is (IsImageLoaded image count programs slot) → loaded ≡ before ++ is ∷ []
     → AreLoaded image count programs (take (k + 1) slots) loaded
 slot_more image count programs slots k d slot before loaded is below at are one more =
     subst (λ (l : List Bool). AreLoaded image count programs (take (k + 1) slots) l) (sym more)
     (subst (λ (s : List ℕ). AreLoaded image count programs s (before ++ is ∷ [])) (sym (take_more slots k d below))
-    (one_more_slot image count programs (take k slots) before (get_or slots k d) is are (subst (λ (n : ℕ). Decides is (IsLoaded image count programs n)) at one)))
+    (one_more_slot image count programs (take k slots) before (get_or slots k d) is are (subst (λ (n : ℕ). Decides is (IsImageLoaded image count programs n)) at one)))
 
 -- the loads ended as those of an image that is loaded
-abbrev IsWhole : Ending → Type 0
+abbrev IsWhole : LoadEnd → Type 0
 IsWhole Loaded = Unit {0}
 IsWhole InPart = ⊥
 IsWhole LockedOut = ⊥
@@ -54,21 +54,21 @@ all_set loaded refused failed is = whole_by (list_any (λ is. is) loaded) (list_
 
 -- and the image is loaded into each slot
 each_of : (image : List ℕ) (count : ℕ) (programs : List Publish) (slots : List ℕ) (loaded : List Bool) → AreLoaded image count programs slots loaded → list_all (λ is. is) loaded ≡ true
-    → (number slot : ℕ) → slice_get slots number ≡ Some slot → IsLoaded image count programs slot
+    → (number slot : ℕ) → slice_get slots number ≡ Some slot → IsImageLoaded image count programs slot
 each_of image count programs [] loaded are all number slot at = absurd (none-some slot at)
 each_of image count programs (s ∷ slots) [] are all number slot at = absurd are
-each_of image count programs (s ∷ slots) (true ∷ rest) are all zero slot at = subst (λ n. IsLoaded image count programs n) (same_Some s slot at) (are.0.0 refl)
+each_of image count programs (s ∷ slots) (true ∷ rest) are all zero slot at = subst (λ n. IsImageLoaded image count programs n) (same_Some s slot at) (are.0.0 refl)
 each_of image count programs (s ∷ slots) (true ∷ rest) are all (suc number) slot at = each_of image count programs slots rest are.1 all number slot at
 each_of image count programs (s ∷ slots) (false ∷ rest) are all number slot at = absurd (false≢true all)
 
 pub each_loaded : (image : List ℕ) (count : ℕ) (programs : List Publish) (slots : List ℕ) (loaded : List Bool) (refused failed : Bool) → AreLoaded image count programs slots loaded
-    → ending_of loaded refused failed ≡ Loaded → (number slot : ℕ) → slice_get slots number ≡ Some slot → IsLoaded image count programs slot
+    → ending_of loaded refused failed ≡ Loaded → (number slot : ℕ) → slice_get slots number ≡ Some slot → IsImageLoaded image count programs slot
 each_loaded image count programs slots loaded refused failed are is = each_of image count programs slots loaded are (all_set loaded refused failed is)
 
 -- ---- one slot
 
 -- there is no such slot
-pub not_there : (image : List ℕ) (count : ℕ) (programs : List Publish) (slot : ℕ) → 3 < slot → Decides false (IsLoaded image count programs slot)
+pub not_there : (image : List ℕ) (count : ℕ) (programs : List Publish) (slot : ℕ) → 3 < slot → Decides false (IsImageLoaded image count programs slot)
 not_there image count programs slot above = (
   λ e. absurd (false≢true e),
   λ is.
@@ -78,7 +78,7 @@ not_there image count programs slot above = (
 
 -- its last program was published before
 pub not_later : (image : List ℕ) (generation : ℕ) (programs : List Publish) (slot own : ℕ) → generation_at programs slot ≡ Some own → own ≤ generation
-    → Decides false (IsLoaded image (generation + 1) programs slot)
+    → Decides false (IsImageLoaded image (generation + 1) programs slot)
 not_later image generation programs slot own at before = (
   λ e. absurd (false≢true e),
   λ is.
@@ -90,7 +90,7 @@ not_later image generation programs slot own at before = (
 -- its last program was published after that, and is compared with the image
 pub by_bytes : (image bytes : List ℕ) (generation : ℕ) (programs : List Publish) (slot own : ℕ) (program : AcceptedValue) (is : Bool)
     → slot ≤ 3 → generation_at programs slot ≡ Some own → generation < own → program_at programs slot ≡ Some program → bytes ≡ image_bytes program.program
-    → Decides is (bytes ≡ image) → Decides is (IsLoaded image (generation + 1) programs slot)
+    → Decides is (bytes ≡ image) → Decides is (IsImageLoaded image (generation + 1) programs slot)
 by_bytes image bytes generation programs slot own program is low at later own_program spelled same = (
   λ e. record {
     there = omega (arith, low);
@@ -99,7 +99,7 @@ by_bytes image bytes generation programs slot own program is low at later own_pr
     later = omega (arith, later);
     program = program;
     is_program = own_program;
-    is_image = sym spelled ∙ same.0 e;
+    begins_image = sym spelled ∙ same.0 e;
   },
-  λ loaded. same.1 (spelled ∙ ap (λ (p : AcceptedValue). image_bytes p.program) (same_Some program loaded.program (sym own_program ∙ loaded.is_program)) ∙ loaded.is_image),
+  λ loaded. same.1 (spelled ∙ ap (λ (p : AcceptedValue). image_bytes p.program) (same_Some program loaded.program (sym own_program ∙ loaded.is_program)) ∙ loaded.begins_image),
 )

@@ -2,8 +2,8 @@
 use Rattle.std.proofs.Common.{◌≡◌, ◌∙◌, ◌+◌, ◌++◌, ◌∷◌, [], ℕ, suc, List, ap, subst, sym, arith}
 use Rattle.std.specs.Prelude.{if◌then◌else◌}
 use Rattle.bver.specs.Justified.{AcceptedValue}
-use Rattle.job_rehearse.specs.OpenPorts.{AreOpen, PassesAt, TellsFirst, TellsPlace, first_of_run, is_open, with_end, with_runs}
-use Rattle.job_rehearse.specs.declared.askers.Asker.{Asker}
+use Rattle.job_rehearse.specs.OpenPorts.{AreOpen, PassesAt, PrintsFirstAskers, PrintsPlace, first_of_run, is_port_open, with_end, with_runs}
+use Rattle.job_rehearse.specs.declared.askers.LoadInitiator.{LoadInitiator}
 use Rattle.job_rehearse.specs.declared.open_ports.LoadedNode.{LoadedNode}
 use Rattle.job_rehearse.specs.declared.passing.Passing.{Passing}
 
@@ -11,7 +11,7 @@ next_is : (n : ℕ) → suc n ≡ n + 1
 next_is n = omega arith
 
 -- the answer of one more port
-pub one_more_port : (judge : AcceptedValue) (image : List ℕ) (node : LoadedNode) (asker : Asker) (port : ℕ) (front : List Passing) (last : Passing) (answers : List Passing) → AreOpen judge image node asker port front → PassesAt judge image node asker port last → answers ≡ front ++ last ∷ [] → AreOpen judge image node asker (port + 1) answers
+pub one_more_port : (judge : AcceptedValue) (image : List ℕ) (node : LoadedNode) (asker : LoadInitiator) (port : ℕ) (front : List Passing) (last : Passing) (answers : List Passing) → AreOpen judge image node asker port front → PassesAt judge image node asker port last → answers ≡ front ++ last ∷ [] → AreOpen judge image node asker (port + 1) answers
 one_more_port judge image node asker port front last answers are lets is =
     subst (λ n. AreOpen judge image node asker n answers) (next_is port) (front, last, are, lets, is)
 
@@ -23,13 +23,13 @@ one_more_end start before after answers kind lead words first port text run more
     ∙ ap (λ (n : ℕ). with_runs start answers kind lead words n) (next_is port)
 
 -- the first port of the run that one more port is in
-pub one_more_first : (answers : List Passing) (kind : Passing) (first next port : ℕ) → first ≡ first_of_run answers kind port → next ≡ (if is_open answers kind port then first else port + 1) → next ≡ first_of_run answers kind (port + 1)
+pub one_more_first : (answers : List Passing) (kind : Passing) (first next port : ℕ) → first ≡ first_of_run answers kind port → next ≡ (if is_port_open answers kind port then first else port + 1) → next ≡ first_of_run answers kind (port + 1)
 one_more_first answers kind first next port run is =
-    is ∙ ap (λ (f : ℕ). if is_open answers kind port then f else port + 1) run
-    ∙ ap (λ (n : ℕ). if is_open answers kind port then first_of_run answers kind port else n) (sym (next_is port))
+    is ∙ ap (λ (f : ℕ). if is_port_open answers kind port then f else port + 1) run
+    ∙ ap (λ (n : ℕ). if is_port_open answers kind port then first_of_run answers kind port else n) (sym (next_is port))
     ∙ ap (λ (n : ℕ). first_of_run answers kind n) (next_is port)
 
 -- the lines of the asker of one more place
-pub one_more_place : (judge : AcceptedValue) (image : List ℕ) (node : LoadedNode) (lead : List ℕ) (askers : List Asker) (place : ℕ) (first before after : List ℕ) → TellsFirst judge image node lead askers place first before → TellsPlace judge image node lead askers place before after → TellsFirst judge image node lead askers (place + 1) first after
-one_more_place judge image node lead askers place first before after told more =
-    subst (λ (n : ℕ). TellsFirst judge image node lead askers n first after) (next_is place) (before, told, more)
+pub one_more_place : (judge : AcceptedValue) (image : List ℕ) (node : LoadedNode) (lead : List ℕ) (askers : List LoadInitiator) (place : ℕ) (first before after : List ℕ) → PrintsFirstAskers judge image node lead askers place first before → PrintsPlace judge image node lead askers place before after → PrintsFirstAskers judge image node lead askers (place + 1) first after
+one_more_place judge image node lead askers place first before after reported more =
+    subst (λ (n : ℕ). PrintsFirstAskers judge image node lead askers n first after) (next_is place) (before, reported, more)

@@ -6,14 +6,14 @@ use Rattle.machine.specs.Runs.{call}
 use Rattle.machine.specs.Sizes.{Maps, kind_of_map}
 use Rattle.machine.specs.declared.calls.Call.{Call}
 use Rattle.machine.specs.declared.calls.Question.{Question}
-use Rattle.plain_cells.specs.Cells.{CellsValue}
-use Rattle.job_rehearse.specs.Starts.{AreAnswered, AreBegun, asked_so_far, home_of, raised_answer, raised_call}
+use Rattle.plain_cells.specs.Cells.{PlainCellsValue}
+use Rattle.job_rehearse.specs.Starts.{AreAnsweredFrom, AreBegun, asked_so_far, home_of, raised_answer, raised_call}
 use Rattle.job_rehearse.specs.declared.starts.LoadCells.{LoadCells}
 use Rattle.job_rehearse.specs.declared.starts.Start.{Start}
 use Rattle.job_rehearse.specs.declared.starts.Start.TheVariants.{Fresh, Spent}
 
 -- one call more
-pub one_more_call : (start : Start) (before after : CellsValue) (q : Question) (own answer : ℕ) → after.sizes ≡ before.sizes → after.asked ≡ before.asked ++ call q own ∷ []
+pub one_more_call : (start : Start) (before after : PlainCellsValue) (q : Question) (own answer : ℕ) → after.sizes ≡ before.sizes → after.asked ≡ before.asked ++ call q own ∷ []
     → answer ≡ raised_answer start (kind_of_map before.sizes q.map) own
     → map (raised_call start after.sizes) after.asked ≡ map (raised_call start before.sizes) before.asked ++ call q answer ∷ []
 one_more_call start before after q own answer same more is =
@@ -42,7 +42,7 @@ unasked start sizes c is = ap (λ (calls : List Call). map (raised_call c.start 
 
 -- so the calls since are those of cells that began so
 pub answered_since : (start : Start) (sizes : Maps) (c after : LoadCells) → AreBegun start sizes c → after.cells.sizes ≡ c.cells.sizes → home_of after.start ≡ home_of c.start
-    → AreAnswered after.start after.cells.sizes (asked_so_far after) → AreAnswered start sizes (asked_so_far after)
+    → AreAnsweredFrom after.start after.cells.sizes (asked_so_far after) → AreAnsweredFrom start sizes (asked_so_far after)
 answered_since start sizes c after is maps home answered =
-    subst (λ (s : Maps). AreAnswered start s (asked_so_far after)) (maps ∙ is.sizes_are)
-    (subst (λ (b : Start). AreAnswered b after.cells.sizes (asked_so_far after)) (same_start after.start c.start home ∙ is.start_is) answered)
+    subst (λ (s : Maps). AreAnsweredFrom start s (asked_so_far after)) (maps ∙ is.sizes_are)
+    (subst (λ (b : Start). AreAnsweredFrom b after.cells.sizes (asked_so_far after)) (same_start after.start c.start home ∙ is.start_is) answered)

@@ -4,39 +4,39 @@ use Rattle.std.specs.Io.KnownBytes.{Appends}
 use Rattle.job_parts.specs.Stops.{StopsBy}
 use Rattle.job_parts.specs.declared.faults.Fault.{Fault}
 use Rattle.job_parts.specs.declared.faults.Fault.TheVariants.{NoMemory}
-use Rattle.job_parts.specs.declared.stops.Halt.{Halt}
-use Rattle.job_parts.specs.declared.stops.Halt.TheVariants.{Ended, Unwritten}
-use Rattle.job_parts.specs.declared.status.Status.{Status}
+use Rattle.job_parts.specs.declared.stops.JobStop.{JobStop}
+use Rattle.job_parts.specs.declared.stops.JobStop.TheVariants.{Ended, Unwritten}
+use Rattle.job_parts.specs.declared.status.ExitStatus.{ExitStatus}
 use Rattle.job_rehearse.specs.Loads.{StopsLoad, TakesLoad, unrefused}
-use Rattle.job_rehearse.specs.declared.loaders.Loader.{Loader}
+use Rattle.job_rehearse.specs.declared.loaders.LoadSender.{LoadSender}
 use Rattle.job_rehearse.specs.declared.steps.Rehearsing.{Rehearsing}
-use Rattle.job_rehearse.specs.Rehearsed.{AsksAny, TellsBad}
+use Rattle.job_rehearse.specs.Rehearsed.{AsksAny, PrintsFaultyTable}
 use Rattle.job_rehearse.specs.declared.open_ports.LoadedNode.{LoadedNode}
-use Rattle.job_rehearse.specs.declared.policies.Asked.{Asked}
+use Rattle.job_rehearse.specs.declared.policies.ComparedPolicies.{ComparedPolicies}
 use Rattle.job_rehearse.specs.declared.policies.NoPolicy.{NoPolicy}
 
-pub stops_more : (P Q : Fault → Type 0) → ((fault : Fault) → P fault → Q fault) → (halt : Halt) → StopsBy P halt → StopsBy Q halt
+pub stops_more : (P Q : Fault → Type 0) → ((fault : Fault) → P fault → Q fault) → (halt : JobStop) → StopsBy P halt → StopsBy Q halt
 stops_more P Q more (Ended fault) h = more fault h
 stops_more P Q more (Unwritten refused) h = h
 
 -- the fault of a table that was printed, if that is why there are no policies
-pub tells_none : (holds : NoPolicy → Type 0) (none : NoPolicy) (old new : Option (List ℕ)) (status : Status)
-    → holds none → TellsBad (λ it. it ≡ none) old new status → TellsBad holds old new status
-tells_none holds none old new status held told = record {
-  file = told.file;
-  fault = told.fault;
-  bad = subst holds (sym told.bad) held;
-  told = told.told;
-  failed = told.failed;
+pub reports_none : (holds : NoPolicy → Type 0) (none : NoPolicy) (old new : Option (List ℕ)) (status : ExitStatus)
+    → holds none → PrintsFaultyTable (λ it. it ≡ none) old new status → PrintsFaultyTable holds old new status
+reports_none holds none old new status held reported = record {
+  file = reported.file;
+  fault = reported.fault;
+  bad = subst holds (sym reported.bad) held;
+  reported = reported.reported;
+  failed = reported.failed;
 }
 
 -- the new policy was asked at the same node
-pub asks_at : (node other : LoadedNode) (asked : Asked) (old new : Option (List ℕ)) (status : Status)
+pub asks_at : (node other : LoadedNode) (asked : ComparedPolicies) (old new : Option (List ℕ)) (status : ExitStatus)
     → node ≡ other → AsksAny node asked old new status → AsksAny other asked old new status
 asks_at node other asked old new status is asks = subst (λ (n : LoadedNode). AsksAny n asked old new status) is asks
 
 -- all packets of the loads were taken, and memory was refused to what looks whether the image is loaded
-pub room_stops : (name : List ℕ) (loader : Loader) (slots image : List ℕ) (before after : Rehearsing) (old named new : Option (List ℕ))
+pub room_stops : (name : List ℕ) (loader : LoadSender) (slots image : List ℕ) (before after : Rehearsing) (old named new : Option (List ℕ))
     → Appends old named (name ++ 10 ∷ []) → TakesLoad loader slots image (unrefused before) after named new → StopsLoad name loader slots image before old new NoMemory
 room_stops name loader slots image before after old named new heading taken = record {
   named = named;

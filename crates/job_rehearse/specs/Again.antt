@@ -8,7 +8,7 @@ use Rattle.job_parts.specs.Factory.{factory}
 use Rattle.job_parts.specs.Turns.{AreTaken}
 use Rattle.machine.specs.Sizes.{Maps, counter_maps}
 use Rattle.node_parts.specs.declared.config.NodeConfig.{NodeConfig}
-use Rattle.single_node.specs.Nodes.{IsFresh}
+use Rattle.single_node.specs.Nodes.{IsFreshNode}
 use Rattle.spw.specs.Line.{lines_of}
 use Rattle.job_rehearse.specs.Loads.{unrefused}
 use Rattle.job_rehearse.specs.Steps.{TakesStep}
@@ -29,7 +29,7 @@ pub record IsNewNode (address : ℕ) (sizes : Maps) (r : Rehearsing) : Type 0 wh
   pub maps : config.sizes ≡ sizes
   pub program : AcceptedValue
   pub is_factory : program.program ≡ factory
-  pub fresh : IsFresh config program r.node
+  pub fresh : IsFreshNode config program r.node
 
 -- such a node took the packets of the lines, and then took them again. A verdict refused one of them the second time,
 -- or none
@@ -73,11 +73,11 @@ abbrev pub eight_maps : Maps
 eight_maps = counter_maps (replicate 8 32)
 
 -- the first of these for which the bytes are acceptable
-pub data IsFirst (bytes : List ℕ) (sizes : Maps) : Type 0 where
-  of_none : IsAcceptable bytes no_maps → sizes ≡ no_maps → IsFirst bytes sizes
-  of_one : ¬ IsAcceptable bytes no_maps → IsAcceptable bytes one_map → sizes ≡ one_map → IsFirst bytes sizes
+pub data IsFirstOfFour (bytes : List ℕ) (sizes : Maps) : Type 0 where
+  of_none : IsAcceptable bytes no_maps → sizes ≡ no_maps → IsFirstOfFour bytes sizes
+  of_one : ¬ IsAcceptable bytes no_maps → IsAcceptable bytes one_map → sizes ≡ one_map → IsFirstOfFour bytes sizes
   of_eight : ¬ IsAcceptable bytes no_maps → ¬ IsAcceptable bytes one_map → IsAcceptable bytes eight_maps → sizes ≡ eight_maps
-      → IsFirst bytes sizes
+      → IsFirstOfFour bytes sizes
 
 -- the bytes are acceptable for none of them
 pub record IsForNone (bytes : List ℕ) : Type 0 where
@@ -88,7 +88,7 @@ pub record IsForNone (bytes : List ℕ) : Type 0 where
 -- the maps on which the bytes are tried, if there are some
 abbrev pub IsTriedOn : (bytes : List ℕ) → Option Maps → Type 0
 IsTriedOn bytes None = IsForNone bytes
-IsTriedOn bytes (Some sizes) = IsFirst bytes sizes
+IsTriedOn bytes (Some sizes) = IsFirstOfFour bytes sizes
 
 -- whether a verdict refused one of the packets the second time at such a node with those maps; for an image that is not
 -- tried it is no

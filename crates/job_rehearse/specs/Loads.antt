@@ -9,58 +9,58 @@ use Rattle.node_programs.specs.declared.publishes.Publish.{Publish}
 use Rattle.spw.specs.Line.{lines_of}
 use Rattle.job_packets.specs.Loads.{with_loads}
 use Rattle.job_packets.specs.declared.packet_options.HeaderWords.{HeaderWords}
-use Rattle.job_parts.specs.Turns.{AreTaken, StopsIn}
+use Rattle.job_parts.specs.Turns.{AreTaken, StopsInLines}
 use Rattle.job_parts.specs.declared.faults.Fault.{Fault}
 use Rattle.job_parts.specs.declared.faults.Fault.TheVariants.{NoMemory}
 use Rattle.job_rehearse.specs.Loaders.{IsHeaderOf}
 use Rattle.job_rehearse.specs.Steps.{IsNoStep, TakesStep}
-use Rattle.job_rehearse.specs.declared.loads.Ending.{Ending}
-use Rattle.job_rehearse.specs.declared.loads.Ending.TheVariants.{InPart, Loaded, LockedOut, NotLoaded}
-use Rattle.job_rehearse.specs.declared.loaders.Loader.{Loader}
+use Rattle.job_rehearse.specs.declared.loads.LoadEnd.{LoadEnd}
+use Rattle.job_rehearse.specs.declared.loads.LoadEnd.TheVariants.{InPart, Loaded, LockedOut, NotLoaded}
+use Rattle.job_rehearse.specs.declared.loaders.LoadSender.{LoadSender}
 use Rattle.job_rehearse.specs.declared.steps.Rehearsing.{Rehearsing}
 
 -- the text is the lines that `packet load` prints with these slots, and with the port, the initiator and the key of the loader
-pub record AreLoadLines (loader : Loader) (slots image text : List ℕ) : Type 0 where
+pub record AreLoadLines (loader : LoadSender) (slots image text : List ℕ) : Type 0 where
   pub header : HeaderWords
   pub is_header : IsHeaderOf loader header
   pub lines : text ≡ with_loads [] header header.transaction slots image
 
 -- the node took the packets of the loader's loads of the image into these slots, in turn, and what became of each was printed
-pub record TakesLoad (loader : Loader) (slots image : List ℕ) (before after : Rehearsing) (old new : Option (List ℕ)) : Type 0 where
+pub record TakesLoad (loader : LoadSender) (slots image : List ℕ) (before after : Rehearsing) (old new : Option (List ℕ)) : Type 0 where
   pub text : List ℕ
   pub are_lines : AreLoadLines loader slots image text
   pub all : AreTaken TakesStep (lines_of text) before after old new
 
 -- the node took those before one, at which it stopped
-pub record StopsAtStep (loader : Loader) (slots image : List ℕ) (before after : Rehearsing) (old new : Option (List ℕ))
+pub record StopsAtStep (loader : LoadSender) (slots image : List ℕ) (before after : Rehearsing) (old new : Option (List ℕ))
     (fault : Fault) : Type 0 where
   pub text : List ℕ
   pub are_lines : AreLoadLines loader slots image text
-  pub stop : StopsIn TakesStep IsNoStep (lines_of text) before after old new fault
+  pub stop : StopsInLines TakesStep IsNoStep (lines_of text) before after old new fault
 
 -- the node took all of them, and memory was refused to what looks whether the image is loaded
-abbrev pub LacksRoom : Loader → (slots image : List ℕ) → (before after : Rehearsing) → (old new : Option (List ℕ)) → Fault
+abbrev pub LacksPrintRoom : LoadSender → (slots image : List ℕ) → (before after : Rehearsing) → (old new : Option (List ℕ)) → Fault
     → Type 0
-LacksRoom loader slots image before after old new fault =
+LacksPrintRoom loader slots image before after old new fault =
     (fault ≡ NoMemory) × TakesLoad loader slots image before after old new
 
 -- memory was refused before the first packet or after the last, or the node stopped at one
-abbrev pub StopsTaking : Loader → (slots image : List ℕ) → (before after : Rehearsing) → (old new : Option (List ℕ)) → Fault
+abbrev pub StopsTaking : LoadSender → (slots image : List ℕ) → (before after : Rehearsing) → (old new : Option (List ℕ)) → Fault
     → Type 0
 StopsTaking loader slots image before after old new fault =
     ((fault ≡ NoMemory) × (after ≡ before) × (new ≡ old))
-    ⊎ (StopsAtStep loader slots image before after old new fault ⊎ LacksRoom loader slots image before after old new fault)
+    ⊎ (StopsAtStep loader slots image before after old new fault ⊎ LacksPrintRoom loader slots image before after old new fault)
 
 -- the image is loaded into the slot: the last program that was published for it is that of the image, and was published
 -- after `count` others
-pub record IsLoaded (image : List ℕ) (count : ℕ) (programs : List Publish) (slot : ℕ) : Type 0 where
+pub record IsImageLoaded (image : List ℕ) (count : ℕ) (programs : List Publish) (slot : ℕ) : Type 0 where
   pub there : slot < 4
   pub generation : ℕ
   pub is_generation : generation_at programs slot ≡ Some generation
   pub later : count ≤ generation
   pub program : AcceptedValue
   pub is_program : program_at programs slot ≡ Some program
-  pub is_image : image_bytes program.program ≡ image
+  pub begins_image : image_bytes program.program ≡ image
 
 -- whether the image is loaded into each of these slots, in turn
 abbrev pub AreLoaded : (image : List ℕ) → (count : ℕ) → (programs : List Publish) → (slots : List ℕ) → List Bool → Type 0
@@ -68,11 +68,11 @@ AreLoaded image count programs [] [] = Unit {0}
 AreLoaded image count programs [] (is ∷ rest) = ⊥
 AreLoaded image count programs (slot ∷ slots) [] = ⊥
 AreLoaded image count programs (slot ∷ slots) (is ∷ rest) =
-    Decides is (IsLoaded image count programs slot) × AreLoaded image count programs slots rest
+    Decides is (IsImageLoaded image count programs slot) × AreLoaded image count programs slots rest
 
 -- how loads of an image into slots ended, by whether the image is loaded into each slot, whether a verdict refused a write of them,
 -- and whether one was not answered with status 0
-abbrev pub ending_of : (loaded : List Bool) → (is_refused is_failed : Bool) → Ending
+abbrev pub ending_of : (loaded : List Bool) → (is_refused is_failed : Bool) → LoadEnd
 ending_of loaded is_refused is_failed =
     if is_refused then (if list_any (λ is. is) loaded then InPart else LockedOut)
     else (if list_all (λ is. is) loaded && not is_failed then Loaded else NotLoaded)
@@ -82,7 +82,7 @@ abbrev pub unrefused : Rehearsing → Rehearsing
 unrefused r = record r { refused = false; failed = false }
 
 -- the name of an image was printed, its loads were taken, and they ended so
-pub record Loads (name : List ℕ) (loader : Loader) (slots image : List ℕ) (ending : Ending) (before after : Rehearsing)
+pub record Loads (name : List ℕ) (loader : LoadSender) (slots image : List ℕ) (ending : LoadEnd) (before after : Rehearsing)
     (old new : Option (List ℕ)) : Type 0 where
   pub named : Option (List ℕ)
   pub heading : Appends old named (name ++ 10 ∷ [])
@@ -91,10 +91,10 @@ pub record Loads (name : List ℕ) (loader : Loader) (slots image : List ℕ) (e
   pub are_loaded : AreLoaded image (length before.node.programs) after.node.programs slots loaded
   pub ended : ending ≡ ending_of loaded after.refused after.failed
   pub each : ending ≡ Loaded → (number slot : ℕ) → slice_get slots number ≡ Some slot
-      → IsLoaded image (length before.node.programs) after.node.programs slot
+      → IsImageLoaded image (length before.node.programs) after.node.programs slot
 
 -- the name of an image was printed, and a fault ended its loads
-pub record StopsLoad (name : List ℕ) (loader : Loader) (slots image : List ℕ) (before : Rehearsing)
+pub record StopsLoad (name : List ℕ) (loader : LoadSender) (slots image : List ℕ) (before : Rehearsing)
     (old new : Option (List ℕ)) (fault : Fault) : Type 0 where
   pub named : Option (List ℕ)
   pub heading : Appends old named (name ++ 10 ∷ [])

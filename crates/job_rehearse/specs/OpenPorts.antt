@@ -3,33 +3,33 @@ use Rattle.std.specs.Prelude.{◌≡◌, ◌+◌, ◌&&◌, ◌==◌, not, ℕ, 
 use Rattle.bver.specs.Justified.{AcceptedValue}
 use Rattle.job_rehearse.specs.Askers.{asker_text}
 use Rattle.job_rehearse.specs.Judging.{IsPassing}
-use Rattle.job_rehearse.specs.declared.askers.Asker.{Asker}
-use Rattle.job_rehearse.specs.declared.loaders.Loader.{Loader}
+use Rattle.job_rehearse.specs.declared.askers.LoadInitiator.{LoadInitiator}
+use Rattle.job_rehearse.specs.declared.loaders.LoadSender.{LoadSender}
 use Rattle.job_rehearse.specs.declared.open_ports.LoadedNode.{LoadedNode}
 use Rattle.job_rehearse.specs.declared.passing.Passing.{Passing}
 use Rattle.job_rehearse.specs.declared.passing.Passing.TheVariants.{Always, UntilSpent, OnceSpent, Never}
 
 -- the asker, at a port of the node
-abbrev pub loader_at : LoadedNode → Asker → (port : ℕ) → Loader
+abbrev pub loader_at : LoadedNode → LoadInitiator → (port : ℕ) → LoadSender
 loader_at node asker port =
     record { port = port; initiator = asker.initiator.byte; key = asker.key.byte; target = node.target }
 
 -- the asker of a place
-abbrev pub IsAt : List Asker → (place : ℕ) → Asker → Type 0
-IsAt askers place asker = (other : Asker) → slice_index_or askers place other ≡ asker
+abbrev pub IsAskerAt : List LoadInitiator → (place : ℕ) → LoadInitiator → Type 0
+IsAskerAt askers place asker = (other : LoadInitiator) → slice_index_or askers place other ≡ asker
 
 -- ---- answers
 
 -- the number of an answer
-abbrev pub number_of : Passing → ℕ
-number_of Always = 0
-number_of UntilSpent = 1
-number_of OnceSpent = 2
-number_of Never = 3
+abbrev pub answer_number_of : Passing → ℕ
+answer_number_of Always = 0
+answer_number_of UntilSpent = 1
+answer_number_of OnceSpent = 2
+answer_number_of Never = 3
 
 -- an answer is that one
 abbrev pub is_kind : (kind passing : Passing) → Bool
-is_kind kind passing = number_of kind == number_of passing
+is_kind kind passing = answer_number_of kind == answer_number_of passing
 
 -- what a line says of when loads pass
 abbrev pub kind_words : Passing → List ℕ
@@ -39,23 +39,23 @@ kind_words OnceSpent = codes " only after quotas are spent"
 kind_words Never = []
 
 -- the answer at a port; after the last it is none of those that are printed
-abbrev pub answer_at : (answers : List Passing) → (port : ℕ) → Passing
-answer_at answers port = slice_index_or answers port Never
+abbrev pub port_answer_at : (answers : List Passing) → (port : ℕ) → Passing
+port_answer_at answers port = slice_index_or answers port Never
 
 -- the answer at a port is that one
-abbrev pub is_open : (answers : List Passing) → (kind : Passing) → (port : ℕ) → Bool
-is_open answers kind port = is_kind kind (answer_at answers port)
+abbrev pub is_port_open : (answers : List Passing) → (kind : Passing) → (port : ℕ) → Bool
+is_port_open answers kind port = is_kind kind (port_answer_at answers port)
 
 -- ---- runs of ports
 
 -- the port is the last of a run of ports with that answer: it has it, and the next does not
 abbrev pub ends_run : (answers : List Passing) → (kind : Passing) → (port : ℕ) → Bool
-ends_run answers kind port = is_open answers kind port && not (is_open answers kind (port + 1))
+ends_run answers kind port = is_port_open answers kind port && not (is_port_open answers kind (port + 1))
 
 -- the first of the ports with that answer right before a port; if the one before it has another, the port itself
 abbrev pub first_of_run : (answers : List Passing) → (kind : Passing) → (port : ℕ) → ℕ
 first_of_run answers kind zero = zero
-first_of_run answers kind (suc port) = if is_open answers kind port then first_of_run answers kind port else suc port
+first_of_run answers kind (suc port) = if is_port_open answers kind port then first_of_run answers kind port else suc port
 
 -- the line of a run of ports, with its line feed (10)
 abbrev pub run_line : (lead words more : List ℕ) → (first last : ℕ) → List ℕ
@@ -85,11 +85,11 @@ with_kinds front answers lead words count =
 
 module _ (judge : AcceptedValue) (image : List ℕ) (node : LoadedNode) where
   -- whether the program lets the asker's load of the image pass at a port
-  abbrev pub PassesAt : Asker → (port : ℕ) → Passing → Type 0
+  abbrev pub PassesAt : LoadInitiator → (port : ℕ) → Passing → Type 0
   PassesAt asker port passing = IsPassing judge (loader_at node asker port) image passing
 
   -- the same for each port below a number, in order
-  abbrev pub AreOpen : Asker → (count : ℕ) → (answers : List Passing) → Type 0
+  abbrev pub AreOpen : LoadInitiator → (count : ℕ) → (answers : List Passing) → Type 0
   AreOpen asker zero answers = answers ≡ []
   AreOpen asker (suc port) answers =
       (front : List Passing) × (last : Passing) × AreOpen asker port front × PassesAt asker port last
@@ -97,23 +97,23 @@ module _ (judge : AcceptedValue) (image : List ℕ) (node : LoadedNode) where
 
 module _ (judge : AcceptedValue) (image : List ℕ) (node : LoadedNode) (lead : List ℕ) where
   -- after a text a line for each run of the node's ports at which the program lets the asker's load pass, in one way
-  pub record TellsAsker (asker : Asker) (before after : List ℕ) : Type 0 where
+  pub record PrintsAsker (asker : LoadInitiator) (before after : List ℕ) : Type 0 where
     pub answers : List Passing
     pub are_open : AreOpen judge image node asker node.ports answers
     pub lines : after ≡ with_kinds before answers lead (asker_text asker) node.ports
 
   -- the same of the asker of a place
-  pub record TellsPlace (askers : List Asker) (place : ℕ) (before after : List ℕ) : Type 0 where
-    pub asker : Asker
-    pub is_at : IsAt askers place asker
-    pub tells : TellsAsker asker before after
+  pub record PrintsPlace (askers : List LoadInitiator) (place : ℕ) (before after : List ℕ) : Type 0 where
+    pub asker : LoadInitiator
+    pub is_at : IsAskerAt askers place asker
+    pub reports : PrintsAsker asker before after
 
   -- the same of the askers of the first `count` places in turn
-  abbrev pub TellsFirst : List Asker → (count : ℕ) → (before after : List ℕ) → Type 0
-  TellsFirst askers zero before after = after ≡ before
-  TellsFirst askers (suc place) before after =
-      (between : List ℕ) × TellsFirst askers place before between × TellsPlace askers place between after
+  abbrev pub PrintsFirstAskers : List LoadInitiator → (count : ℕ) → (before after : List ℕ) → Type 0
+  PrintsFirstAskers askers zero before after = after ≡ before
+  PrintsFirstAskers askers (suc place) before after =
+      (between : List ℕ) × PrintsFirstAskers askers place before between × PrintsPlace askers place between after
 
   -- the text is the lines of all askers: whose load is in none of them does not pass
-  abbrev pub TellsAskers : List Asker → (text : List ℕ) → Type 0
-  TellsAskers askers text = TellsFirst askers (length askers) [] text
+  abbrev pub PrintsAskers : List LoadInitiator → (text : List ℕ) → Type 0
+  PrintsAskers askers text = PrintsFirstAskers askers (length askers) [] text

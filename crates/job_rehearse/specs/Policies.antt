@@ -4,11 +4,11 @@ use Rattle.std.specs.Borrow.{Bor}
 use Rattle.std.specs.List.{starts_with}
 use Rattle.std.specs.Str.{IsUtf8}
 use Rattle.bpf.specs.Program.{IsProgram, Program, image_bytes}
-use Rattle.bpf.specs.Reading.{Fails, image_reading, magic}
+use Rattle.bpf.specs.Reading.{FailsReading, image_reading, magic}
 use Rattle.bpf.specs.declared.fault.ImageFault.{ImageFault}
 use Rattle.bpf.specs.declared.fault.ImageFault.TheVariants.{Length}
 use Rattle.bver.specs.Refusals.{IsRefusal}
-use Rattle.bver.specs.Unjustified.{TellsUnjustified}
+use Rattle.bver.specs.Unjustified.{ReportsUnjustified}
 use Rattle.bver_form.specs.declared.refusal.Refused.{Refused}
 use Rattle.machine.specs.Sizes.{Maps}
 use Rattle.policy.specs.Compiled.{IsPortCompiled}
@@ -16,12 +16,12 @@ use Rattle.policy_table.specs.Policies.{IsPolicyFault, PolicyValue, WritesPolicy
 use Rattle.policy_table.specs.declared.text_faults.TextFault.{TextFault}
 use Rattle.rmap.specs.declared.boot.TheConstants.{STAGING_SIZE}
 use Rattle.spw.specs.Line.{lines_of}
-use Rattle.job_parts.specs.Files.{Reads}
-use Rattle.job_parts.specs.Reading.{IsUnread}
+use Rattle.job_parts.specs.Files.{ReadsFile}
+use Rattle.job_parts.specs.Reading.{IsFileUnread}
 use Rattle.job_parts.specs.declared.faults.Fault.{Fault}
 use Rattle.job_parts.specs.declared.faults.Fault.TheVariants.{BadImage, CannotRead, NoMemory, Refused as IsRefused}
 use Rattle.job_rehearse.specs.Askers.{askers_of}
-use Rattle.job_rehearse.specs.declared.policies.Asked.{Asked}
+use Rattle.job_rehearse.specs.declared.policies.ComparedPolicies.{ComparedPolicies}
 use Rattle.job_rehearse.specs.declared.policies.Images.{Images}
 use Rattle.job_rehearse.specs.declared.policies.NoPolicy.{NoPolicy}
 use Rattle.job_rehearse.specs.declared.policies.NoPolicy.TheVariants.{BadTable, Ended}
@@ -31,55 +31,55 @@ use Rattle.job_rehearse.specs.declared.rehearse.RehearseWords.{RehearseWords}
 -- ---- bytes
 
 -- the bytes begin as those of an image do
-abbrev pub is_image : List ℕ → Bool
-is_image bytes = starts_with nat_eq bytes magic
+abbrev pub begins_image : List ℕ → Bool
+begins_image bytes = starts_with nat_eq bytes magic
 
 -- the bytes are UTF-8, and the text of a table without a fault for these maps
-pub record IsTableOf (sizes : Maps) (bytes : List ℕ) (policy : PolicyValue) : Type 0 where
+pub record IsTextOfTable (sizes : Maps) (bytes : List ℕ) (policy : PolicyValue) : Type 0 where
   pub utf8 : IsUtf8 bytes
   pub is_table : WritesPolicy (lines_of bytes) policy
   pub faultless : policy_fault sizes policy ≡ None
 
 -- the bytes are an image of the program
-pub record IsImageOf (bytes : List ℕ) (p : Program) : Type 0 where
-  pub begins : is_image bytes ≡ true
+pub record IsBytesOfImage (bytes : List ℕ) (p : Program) : Type 0 where
+  pub begins : begins_image bytes ≡ true
   pub limits : IsProgram p
   pub spelled : bytes ≡ image_bytes p
 
 -- the bytes are this table, which compiles to the program for these maps
 pub record IsCompiledOf (sizes : Maps) (bytes : List ℕ) (p : Program) (policy : PolicyValue) : Type 0 where
-  pub other : is_image bytes ≡ false
-  pub table : IsTableOf sizes bytes policy
+  pub other : begins_image bytes ≡ false
+  pub table : IsTextOfTable sizes bytes policy
   pub compiled : IsPortCompiled sizes policy p
 
 -- the bytes are a policy of this program, for a node with these maps: its image, or this table, which compiles to it
 abbrev pub IsPolicy : Maps → (bytes : List ℕ) → Program → Option PolicyValue → Type 0
-IsPolicy sizes bytes p None = IsImageOf bytes p
+IsPolicy sizes bytes p None = IsBytesOfImage bytes p
 IsPolicy sizes bytes p (Some policy) = IsCompiledOf sizes bytes p policy
 
 -- the first fault of bytes that are no image, or memory was refused to it
-abbrev pub IsNoImage : (bytes : List ℕ) → Fault → Type 0
-IsNoImage bytes fault = (bad : ImageFault) × (fault ≡ BadImage bad) × Fails bad (image_reading bytes)
+abbrev pub IsFaultyImage : (bytes : List ℕ) → Fault → Type 0
+IsFaultyImage bytes fault = (bad : ImageFault) × (fault ≡ BadImage bad) × FailsReading bad (image_reading bytes)
 
 -- the bytes of the file of this name are neither an image nor UTF-8
-pub record IsNoText (name bytes : List ℕ) (fault : Fault) : Type 0 where
+pub record IsNoPolicyText (name bytes : List ℕ) (fault : Fault) : Type 0 where
   pub file : Bor (List ℕ)
   pub named : file.now ≡ name
   pub is_fault : fault ≡ CannotRead file
-  pub other : is_image bytes ≡ false
+  pub other : begins_image bytes ≡ false
   pub no_text : ¬ IsUtf8 bytes
 
 -- the bytes are UTF-8, and no table without a fault for these maps: this is the first, with its place
 pub record IsBadTableOf (sizes : Maps) (bytes : List ℕ) (fault : TextFault) : Type 0 where
-  pub other : is_image bytes ≡ false
+  pub other : begins_image bytes ≡ false
   pub utf8 : IsUtf8 bytes
   pub is_fault : IsPolicyFault sizes (lines_of bytes) fault
 
 -- why the bytes of the file of this name are no policy for these maps
-abbrev pub IsNoPolicy : (name : List ℕ) → Maps → (bytes : List ℕ) → NoPolicy → Type 0
-IsNoPolicy name sizes bytes (Ended fault) =
-    ((is_image bytes ≡ true) × IsNoImage bytes fault) ⊎ IsNoText name bytes fault ⊎ (fault ≡ NoMemory)
-IsNoPolicy name sizes bytes (BadTable own fault) = (own.now ≡ name) × IsBadTableOf sizes bytes fault
+abbrev pub HasNoPolicy : (name : List ℕ) → Maps → (bytes : List ℕ) → NoPolicy → Type 0
+HasNoPolicy name sizes bytes (Ended fault) =
+    ((begins_image bytes ≡ true) × IsFaultyImage bytes fault) ⊎ IsNoPolicyText name bytes fault ⊎ (fault ≡ NoMemory)
+HasNoPolicy name sizes bytes (BadTable own fault) = (own.now ≡ name) × IsBadTableOf sizes bytes fault
 
 -- ---- images
 
@@ -87,11 +87,11 @@ IsNoPolicy name sizes bytes (BadTable own fault) = (own.now ≡ name) × IsBadTa
 abbrev pub IsNotAccepted : Program → Maps → Fault → Type 0
 IsNotAccepted p sizes fault =
     (fault ≡ NoMemory)
-    ⊎ ((refused : Refused) × (fault ≡ IsRefused refused) × IsRefusal p refused × TellsUnjustified p sizes refused)
+    ⊎ ((refused : Refused) × (fault ≡ IsRefused refused) × IsRefusal p refused × ReportsUnjustified p sizes refused)
 
 -- the image has more bytes than the staging, or memory was refused to them
-abbrev pub IsTooLong : Program → Fault → Type 0
-IsTooLong p fault = (fault ≡ NoMemory) ⊎ ((fault ≡ BadImage Length) × (STAGING_SIZE < length (image_bytes p)))
+abbrev pub IsImageTooLong : Program → Fault → Type 0
+IsImageTooLong p fault = (fault ≡ NoMemory) ⊎ ((fault ≡ BadImage Length) × (STAGING_SIZE < length (image_bytes p)))
 
 -- what a rehearsal needs of two programs: the first may judge, and the bytes of both images, which the staging can hold
 pub record ArePolicies (one other : Program) (sizes : Maps) (made : Policies) : Type 0 where
@@ -104,10 +104,10 @@ pub record ArePolicies (one other : Program) (sizes : Maps) (made : Policies) : 
 
 -- why two programs cannot be rehearsed with
 abbrev pub AreUnready : (one other : Program) → Maps → Fault → Type 0
-AreUnready one other sizes fault = IsNotAccepted one sizes fault ⊎ (IsTooLong one fault ⊎ IsTooLong other fault)
+AreUnready one other sizes fault = IsNotAccepted one sizes fault ⊎ (IsImageTooLong one fault ⊎ IsImageTooLong other fault)
 
 -- what is asked of two images: what a rehearsal needs of them, the second may judge, and whose loads it is asked about
-pub record AreAsked (images : Images) (sizes : Maps) (made : Asked) : Type 0 where
+pub record AreRehearsed (images : Images) (sizes : Maps) (made : ComparedPolicies) : Type 0 where
   pub policies : ArePolicies images.old images.new sizes made.policies
   pub judge : made.judge.program ≡ images.new
   pub sizes_are : made.judge.sizes ≡ sizes
@@ -119,9 +119,9 @@ AreUnasked images sizes fault = AreUnready images.old images.new sizes fault ⊎
 
 -- ---- files
 
-module _ {S : Type 0} (reads : Reads S) where
+module _ {S : Type 0} (reads : ReadsFile S) where
   -- the file was read, and gave a policy of this program for these maps, and this table if it is one
-  pub record HoldsPolicy (before : S) (name : List ℕ) (sizes : Maps) (p : Program) (table : Option PolicyValue) (after : S) :
+  pub record HoldsPolicyFor (before : S) (name : List ℕ) (sizes : Maps) (p : Program) (table : Option PolicyValue) (after : S) :
       Type 0 where
     pub bytes : List ℕ
     pub read : reads before name (Some bytes) after
@@ -131,11 +131,11 @@ module _ {S : Type 0} (reads : Reads S) where
   pub record HoldsNone (before : S) (name : List ℕ) (sizes : Maps) (after : S) (none : NoPolicy) : Type 0 where
     pub bytes : List ℕ
     pub read : reads before name (Some bytes) after
-    pub is_none : IsNoPolicy name sizes bytes none
+    pub is_none : HasNoPolicy name sizes bytes none
 
   -- the file cannot be read
   abbrev pub CannotBeRead : (before : S) (name : List ℕ) (after : S) → NoPolicy → Type 0
-  CannotBeRead before name after (Ended fault) = IsUnread reads before name after fault
+  CannotBeRead before name after (Ended fault) = IsFileUnread reads before name after fault
   CannotBeRead before name after (BadTable own fault) = ⊥
 
   -- the file cannot be read, or gives no policy for these maps
@@ -143,23 +143,23 @@ module _ {S : Type 0} (reads : Reads S) where
   GivesNoPolicy before name sizes after none =
       CannotBeRead before name after none ⊎ HoldsNone before name sizes after none
 
-module _ {S : Type 0} (reads : Reads S) (words : RehearseWords) (sizes : Maps) where
+module _ {S : Type 0} (reads : ReadsFile S) (words : RehearseWords) (sizes : Maps) where
   -- the file of the old policy gave this program
-  abbrev pub HoldsOld : (before : S) → Program → (after : S) → Type 0
-  HoldsOld before p after =
-      (table : Option (PolicyValue)) × HoldsPolicy reads before (string_bytes words.old) sizes p table after
+  abbrev pub HoldsOldPolicy : (before : S) → Program → (after : S) → Type 0
+  HoldsOldPolicy before p after =
+      (table : Option (PolicyValue)) × HoldsPolicyFor reads before (string_bytes words.old) sizes p table after
 
   -- the files were read in this order, and gave policies of these images
   pub record AreImages (before : S) (images : Images) (after : S) : Type 0 where
     pub between : S
-    pub first : HoldsOld before images.old between
-    pub second : HoldsPolicy reads between (string_bytes words.new) sizes images.new images.table after
+    pub first : HoldsOldPolicy before images.old between
+    pub second : HoldsPolicyFor reads between (string_bytes words.new) sizes images.new images.table after
 
   -- the file of the new policy gives none, after that of the old one, which does
   pub record NewIsNone (before after : S) (none : NoPolicy) : Type 0 where
     pub between : S
     pub one : Program
-    pub first : HoldsOld before one between
+    pub first : HoldsOldPolicy before one between
     pub second : GivesNoPolicy reads between (string_bytes words.new) sizes after none
 
   -- a file gives no policy
@@ -189,10 +189,10 @@ module _ {S : Type 0} (reads : Reads S) (words : RehearseWords) (sizes : Maps) w
   HoldsNotBoth before after none = AreNoImages before after none ⊎ EndUnready before after none
 
   -- the files gave policies of which the new one can be asked
-  pub record HoldsAsked (before after : S) (made : Asked) : Type 0 where
+  pub record HoldsAsked (before after : S) (made : ComparedPolicies) : Type 0 where
     pub images : Images
     pub are_images : AreImages before images after
-    pub asked : AreAsked images sizes made
+    pub asked : AreRehearsed images sizes made
 
   -- the files gave policies of which the new one cannot be asked
   pub record BothUnasked (before after : S) (fault : Fault) : Type 0 where

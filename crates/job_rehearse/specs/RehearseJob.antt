@@ -9,7 +9,7 @@ use Rattle.job_parts.specs.TwoFiles.{NamesOneInput, are_one_input}
 use Rattle.job_parts.specs.declared.usage.UsageFault.{UsageFault}
 use Rattle.job_parts.specs.declared.usage.UsageFault.TheVariants.{Parse, BadOption, Memory}
 use Rattle.job_rehearse.specs.Loaders.{GivesLoaders}
-use Rattle.job_rehearse.specs.Places.{GivesPlace, SpoilsPlace}
+use Rattle.job_rehearse.specs.Places.{GivesRehearsalNode, SpoilsPlace}
 use Rattle.job_rehearse.specs.declared.rehearse.RehearseWords.{RehearseWords}
 
 -- `rehearse OLD NEW [--maps LIST] [--slot LIST]`
@@ -53,7 +53,7 @@ pub record NamesRehearse (rows : List Row) (words : RehearseWords) : Type 0 wher
   pub old : first_of (codes "old") rows ≡ Some (string_bytes words.old)
   pub new : first_of (codes "new") rows ≡ Some (string_bytes words.new)
   pub apart : are_one_input (string_bytes words.old) (string_bytes words.new) ≡ false
-  pub place : GivesPlace rows words.place
+  pub place : GivesRehearsalNode rows words.place
   pub slots : GivesSlots (first_of (codes "slot") rows) words.slots.items
   pub loaders : GivesLoaders rows words.loaders
 

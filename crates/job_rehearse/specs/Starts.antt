@@ -24,10 +24,10 @@ abbrev pub raised_call : Start → Maps → Call → Call
 raised_call start sizes c = call c.question (raised_answer start (kind_of_map sizes c.question.map) c.answer)
 
 -- cells that began so answered the calls in order: as cells that nobody asked would, each answer raised by what was before
-pub record AreAnswered (start : Start) (sizes : Maps) (calls : List Call) : Type 0 where
+pub record AreAnsweredFrom (start : Start) (sizes : Maps) (calls : List Call) : Type 0 where
   pub own : List Call
-  pub behind : List (List ℕ)
-  pub in_order : AreCallsOn sizes (zero_words sizes) own behind
+  pub following : List (List ℕ)
+  pub in_order : AreCallsOn sizes (zero_words sizes) own following
   pub raised : calls ≡ map (raised_call start sizes) own
 
 -- ---- as values

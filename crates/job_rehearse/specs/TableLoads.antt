@@ -11,8 +11,8 @@ use Rattle.spw.specs.Line.{lines_of}
 use Rattle.job_config.specs.declared.own_node.TheConstants.{NODE_ADDRESS}
 use Rattle.job_rehearse.specs.Askers.{table_askers}
 use Rattle.job_rehearse.specs.Judging.{IsPassing}
-use Rattle.job_rehearse.specs.OpenPorts.{TellsAskers, is_kind}
-use Rattle.job_rehearse.specs.declared.loaders.Loader.{Loader}
+use Rattle.job_rehearse.specs.OpenPorts.{PrintsAskers, is_kind}
+use Rattle.job_rehearse.specs.declared.loaders.LoadSender.{LoadSender}
 use Rattle.job_rehearse.specs.declared.open_ports.LoadedNode.{LoadedNode}
 use Rattle.job_rehearse.specs.declared.passing.Passing.{Passing}
 use Rattle.job_rehearse.specs.declared.passing.Passing.TheVariants.{Always}
@@ -63,43 +63,43 @@ abbrev pub lead_of : (bytes : ℕ) → List ℕ
 lead_of bytes = codes "    loads of " ++ decimal bytes ++ codes " bytes"
 
 -- the node: logical address FE, and this many ports
-abbrev pub node_of : (ports : ℕ) → LoadedNode
-node_of ports = record { target = NODE_ADDRESS; ports = ports }
+abbrev pub rehearsed_node_of : (ports : ℕ) → LoadedNode
+rehearsed_node_of ports = record { target = NODE_ADDRESS; ports = ports }
 
 module _ (ports : ℕ) (made : TableLoads) where
   -- the lines of whose loads of an image of that size the table lets pass
-  abbrev pub TellsLoads : (image lead lines : List ℕ) → Type 0
-  TellsLoads image lead lines = TellsAskers made.judge image (node_of ports) lead made.askers.items lines
+  abbrev pub PrintsLoads : (image lead lines : List ℕ) → Type 0
+  PrintsLoads image lead lines = PrintsAskers made.judge image (rehearsed_node_of ports) lead made.askers.items lines
 
   -- after a text the lines of the table's own image, with its size
   pub record AddsOwn (before after : List ℕ) : Type 0 where
     pub lines : List ℕ
-    pub tells : TellsLoads made.image.items (lead_of (length made.image.items)) lines
+    pub reports : PrintsLoads made.image.items (lead_of (length made.image.items)) lines
     pub added : after ≡ before ++ lines_or_nobody (lead_of (length made.image.items)) lines
 
   -- the text is the lines of the smallest image, and after them those of the table's own, if these are others
-  abbrev pub TellsOf : (plain own text : List ℕ) → Type 0
-  TellsOf plain own text =
+  abbrev pub PrintsOf : (plain own text : List ℕ) → Type 0
+  PrintsOf plain own text =
       ((own ≡ plain) × (text ≡ lines_or_nobody lead_plain plain))
       ⊎ ((own ≢ plain) × AddsOwn (lines_or_nobody lead_plain plain) text)
 
   -- the lines of both
-  pub record TellsBoth (text : List ℕ) : Type 0 where
+  pub record PrintsBoth (text : List ℕ) : Type 0 where
     pub plain : List ℕ
     pub own : List ℕ
-    pub plain_is : TellsLoads smallest lead_plain plain
-    pub own_is : TellsLoads made.image.items lead_plain own
-    pub tells : TellsOf plain own text
+    pub plain_is : PrintsLoads smallest lead_plain plain
+    pub own_is : PrintsLoads made.image.items lead_plain own
+    pub reports : PrintsOf plain own text
 
 -- what `map` says of what is asked of a table: whose loads pass; of a text that writes none it says nothing
-abbrev pub AskedLoaders : (ports : ℕ) → Option TableLoads → (told : List ℕ) → Type 0
-AskedLoaders ports None told = told ≡ []
-AskedLoaders ports (Some made) told = TellsBoth ports made told
+abbrev pub AskedLoaders : (ports : ℕ) → Option TableLoads → (reported : List ℕ) → Type 0
+AskedLoaders ports None reported = reported ≡ []
+AskedLoaders ports (Some made) reported = PrintsBoth ports made reported
 
 -- the same of a table
-abbrev pub TellsLoaders : Maps → (text : List ℕ) → (ports : ℕ) → (told : List ℕ) → Type 0
-TellsLoaders sizes text ports told =
-    (asked : Option TableLoads) × AsksTable sizes text asked × AskedLoaders ports asked told
+abbrev pub PrintsLoaders : Maps → (text : List ℕ) → (ports : ℕ) → (reported : List ℕ) → Type 0
+PrintsLoaders sizes text ports reported =
+    (asked : Option TableLoads) × AsksTable sizes text asked × AskedLoaders ports asked reported
 
 -- ---- a table that lets nobody load
 
@@ -120,7 +120,7 @@ abbrev pub mended_second : (text : List ℕ) → List ℕ
 mended_second text = before_first is_feed text ++ 10 ∷ [] ++ mending_line ++ after_first is_feed text
 
 -- initiator 67 with key 00, at port 0
-abbrev pub sixty_seven : Loader
+abbrev pub sixty_seven : LoadSender
 sixty_seven = record { port = 0; initiator = 103; key = 0; target = NODE_ADDRESS }
 
 -- the table lets this one load, whatever quotas are spent: the smallest image, and its own
@@ -141,8 +141,8 @@ abbrev pub Mends : Maps → (text : List ℕ) → (is : Bool) → Type 0
 Mends sizes text is = (asked : Option TableLoads) × AsksTable sizes text asked × MendsAsked asked is
 
 -- that nobody loads
-abbrev pub shut_words : List ℕ
-shut_words = codes "    in slot 3 this table lets nobody load another" ++ 10 ∷ []
+abbrev pub closed_words : List ℕ
+closed_words = codes "    in slot 3 this table lets nobody load another" ++ 10 ∷ []
 
 -- what mends that
 abbrev pub mending_words : (is : Bool) → List ℕ
@@ -163,33 +163,33 @@ pub record CanBeMended (sizes : Maps) (text : List ℕ) (is : Bool) : Type 0 whe
   pub either : is ≡ (front || second)
 
 -- what is said of a table that lets nobody load
-pub record TellsShut (sizes : Maps) (text told : List ℕ) : Type 0 where
+pub record PrintsClosed (sizes : Maps) (text reported : List ℕ) : Type 0 where
   pub is : Bool
   pub mended : CanBeMended sizes text is
-  pub told_is : told ≡ shut_words ++ mending_words is ++ final_words
+  pub reported_is : reported ≡ closed_words ++ mending_words is ++ final_words
 
 -- what `policy` says of these lines: nothing if somebody loads both images, that nobody does, or both lines if somebody
 -- loads only one image
-abbrev pub TellsDoors : (sizes : Maps) → (text : List ℕ) → (ports : ℕ) → TableLoads → (plain own told : List ℕ) → Type 0
-TellsDoors sizes text ports made [] [] told = TellsShut sizes text told
-TellsDoors sizes text ports made [] (code ∷ own) told = TellsOf ports made [] (code ∷ own) told
-TellsDoors sizes text ports made (code ∷ plain) [] told = TellsOf ports made (code ∷ plain) [] told
-TellsDoors sizes text ports made (code ∷ plain) (other ∷ own) told = told ≡ []
+abbrev pub PrintsDoors : (sizes : Maps) → (text : List ℕ) → (ports : ℕ) → TableLoads → (plain own reported : List ℕ) → Type 0
+PrintsDoors sizes text ports made [] [] reported = PrintsClosed sizes text reported
+PrintsDoors sizes text ports made [] (code ∷ own) reported = PrintsOf ports made [] (code ∷ own) reported
+PrintsDoors sizes text ports made (code ∷ plain) [] reported = PrintsOf ports made (code ∷ plain) [] reported
+PrintsDoors sizes text ports made (code ∷ plain) (other ∷ own) reported = reported ≡ []
 
 -- what `policy` says of what is asked of a table
-pub record DoorsOf (sizes : Maps) (text : List ℕ) (ports : ℕ) (made : TableLoads) (told : List ℕ) : Type 0 where
+pub record DoorsOf (sizes : Maps) (text : List ℕ) (ports : ℕ) (made : TableLoads) (reported : List ℕ) : Type 0 where
   pub plain : List ℕ
   pub own : List ℕ
-  pub plain_is : TellsLoads ports made smallest lead_plain plain
-  pub own_is : TellsLoads ports made made.image.items lead_plain own
-  pub tells : TellsDoors sizes text ports made plain own told
+  pub plain_is : PrintsLoads ports made smallest lead_plain plain
+  pub own_is : PrintsLoads ports made made.image.items lead_plain own
+  pub reports : PrintsDoors sizes text ports made plain own reported
 
 -- the same; of a text that writes no table it says nothing
-abbrev pub AskedDoors : (sizes : Maps) → (text : List ℕ) → (ports : ℕ) → Option TableLoads → (told : List ℕ) → Type 0
-AskedDoors sizes text ports None told = told ≡ []
-AskedDoors sizes text ports (Some made) told = DoorsOf sizes text ports made told
+abbrev pub AskedDoors : (sizes : Maps) → (text : List ℕ) → (ports : ℕ) → Option TableLoads → (reported : List ℕ) → Type 0
+AskedDoors sizes text ports None reported = reported ≡ []
+AskedDoors sizes text ports (Some made) reported = DoorsOf sizes text ports made reported
 
 -- the same of a table
-abbrev pub TellsPolicy : Maps → (text : List ℕ) → (ports : ℕ) → (told : List ℕ) → Type 0
-TellsPolicy sizes text ports told =
-    (asked : Option TableLoads) × AsksTable sizes text asked × AskedDoors sizes text ports asked told
+abbrev pub PrintsPolicy : Maps → (text : List ℕ) → (ports : ℕ) → (reported : List ℕ) → Type 0
+PrintsPolicy sizes text ports reported =
+    (asked : Option TableLoads) × AsksTable sizes text asked × AskedDoors sizes text ports asked reported

@@ -12,11 +12,11 @@ use Rattle.rmap.specs.declared.status.Status.TheVariants.{Success, GeneralError,
 use Rattle.rmap.specs.declared.status.Status.TheVariants.{InvalidDataCrc, EarlyEndOfPacket, TooMuchData}
 use Rattle.rmap.specs.declared.status.Status.TheVariants.{ErrorEndOfPacket, VerifyBufferOverrun, NotAuthorised}
 use Rattle.rmap.specs.declared.status.Status.TheVariants.{RmwDataLength, InvalidLogicalAddress}
-use Rattle.job_rehearse.specs.declared.steps.Step.{Step}
-use Rattle.job_rehearse.specs.declared.steps.Step.TheVariants.{Control, Part, Result}
+use Rattle.job_rehearse.specs.declared.steps.LoadStep.{LoadStep}
+use Rattle.job_rehearse.specs.declared.steps.LoadStep.TheVariants.{Control, Part, Result}
 
 -- what a packet of a load is
-abbrev pub step_words : Step → List ℕ
+abbrev pub step_words : LoadStep → List ℕ
 step_words Part = codes "write of the image"
 step_words Control = codes "load"
 step_words Result = codes "read of the load result"
@@ -45,9 +45,9 @@ status_in (Done applied) = Some applied.status
 status_in (Window status) = Some status
 
 -- a packet ended with status 0
-abbrev pub is_success : Option Status → Bool
-is_success None = false
-is_success (Some status) = status_code status == 0
+abbrev pub is_step_success : Option Status → Bool
+is_step_success None = false
+is_step_success (Some status) = status_code status == 0
 
 -- how a packet ended
 abbrev pub outcome_text : Option Status → List ℕ
@@ -75,7 +75,7 @@ result_text None = []
 result_text (Some r) = result_words r
 
 -- the line of a packet of a load: what it is, and how it ended
-abbrev pub step_line : Step → Served → (reply : List ℕ) → List ℕ
+abbrev pub step_line : LoadStep → Served → (reply : List ℕ) → List ℕ
 step_line step served reply =
     codes "    " ++ step_words step ++ codes ": " ++ outcome_text (status_in served)
     ++ result_text (load_result_in reply) ++ 10 ∷ []

@@ -2,14 +2,14 @@
 
 ghost use Rattle.std.specs.Prelude.{◌≡◌, ◌++◌, IfOk, OnOk, drop, string_bytes};
 ghost use Rattle.std.specs.List.{list_any};
-ghost use Rattle.job_rehearse.specs.Askers.{asker_text, asker_words, askers_of, each_value, every_asker, is_wanted, table_askers, value_at, value_text, values_of, wanted, with_keys, with_pairs};
+ghost use Rattle.job_rehearse.specs.Askers.{asker_text, asker_words, askers_of, each_value, every_asker, is_wanted, table_askers, value_at, value_text, values_of, wanted_field, with_keys, with_pairs};
 
 use policy::{Policy, PortRule, Rule};
 use std::alloc::{AllocError, Global};
 
 /// A value of a field of a header, about which a program is asked.
 #[derive(Clone, Copy, Debug, PartialEq, Eq)]
-pub struct Asking {
+pub struct HeaderFieldValue {
     /// The value.
     pub byte: u8,
     /// Whether it means only itself. If not, it means all values that no rule names.
@@ -18,11 +18,11 @@ pub struct Asking {
 
 /// An initiator and a key, about whose loads a program is asked.
 #[derive(Clone, Copy, Debug, PartialEq, Eq)]
-pub struct Asker {
+pub struct LoadInitiator {
     /// The initiator logical address.
-    pub initiator: Asking,
+    pub initiator: HeaderFieldValue,
     /// The key.
-    pub key: Asking,
+    pub key: HeaderFieldValue,
 }
 
 /// A field of a header that says who loads.
@@ -35,8 +35,8 @@ pub enum Field {
 }
 
 /// What a rule wants of a field; `None` agrees with each value.
-fn wanted(field: Field, rule: &Rule) -> Option<u8>
-    ensures { result ≡ wanted field rule.now }
+fn wanted_field(field: Field, rule: &Rule) -> Option<u8>
+    ensures { result ≡ wanted_field field rule.now }
 {
     match field {
         Field::Initiator => rule.initiator,
@@ -48,7 +48,7 @@ fn wanted(field: Field, rule: &Rule) -> Option<u8>
 fn is_wanted(field: Field, byte: u8, own: &PortRule) -> bool
     ensures { result ≡ is_wanted field byte own.now }
 {
-    match wanted(field, &own.rule) {
+    match wanted_field(field, &own.rule) {
         Some(own) => own == byte,
         None => false,
     }
@@ -63,36 +63,36 @@ fn names(rules: &[PortRule], field: Field, byte: u8) -> bool
 
 /// Adds a value, if a rule names it, or if it is the first that none names.
 fn push_value(
-    values: &mut Vec<Asking>,
+    values: &mut Vec<HeaderFieldValue>,
     byte: u8,
     is_named: bool,
-    are_named: bool,
+    are_values_named: bool,
 ) -> Result<(), AllocError>
     ensures { OnOk result (values.new.items
-        ≡ values.old.items ++ value_at byte is_named are_named) }
+        ≡ values.old.items ++ value_at byte is_named are_values_named) }
 {
-    if is_named || are_named {
-        values.push(Asking { byte, is_named })?;
+    if is_named || are_values_named {
+        values.push(HeaderFieldValue { byte, is_named })?;
     }
     Ok(())
 }
 
 /// The values of a field that some rule names, and the least that none names, from the least on.
-fn values_of(alloc: Global, rules: &[PortRule], field: Field) -> Result<Vec<Asking>, AllocError>
+fn values_of(alloc: Global, rules: &[PortRule], field: Field) -> Result<Vec<HeaderFieldValue>, AllocError>
     ensures { IfOk result (λ values. values.items ≡ values_of rules.now field) }
 {
     let mut values = Vec::new(alloc);
-    let mut are_named = true;
+    let mut are_values_named = true;
     for byte in 0..256u16 {
         let is_named = names(rules, field, byte as u8);
-        push_value(&mut values, byte as u8, is_named, are_named)?;
-        are_named = are_named && is_named;
+        push_value(&mut values, byte as u8, is_named, are_values_named)?;
+        are_values_named = are_values_named && is_named;
     }
     Ok(values)
 }
 
 /// Each value of a byte, from the least on.
-fn each_value(alloc: Global) -> Result<Vec<Asking>, AllocError>
+fn each_value(alloc: Global) -> Result<Vec<HeaderFieldValue>, AllocError>
     ensures { IfOk result (λ values. values.items ≡ each_value) }
 {
     let mut values = Vec::new(alloc);
@@ -103,11 +103,11 @@ fn each_value(alloc: Global) -> Result<Vec<Asking>, AllocError>
 }
 
 /// Adds an initiator with each of some keys.
-fn add_keys(askers: &mut Vec<Asker>, initiator: Asking, keys: &[Asking]) -> Result<(), AllocError>
+fn add_keys(askers: &mut Vec<LoadInitiator>, initiator: HeaderFieldValue, keys: &[HeaderFieldValue]) -> Result<(), AllocError>
     ensures { OnOk result (askers.new.items ≡ with_keys askers.old.items initiator keys.now) }
 {
     for key in keys {
-        askers.push(Asker {
+        askers.push(LoadInitiator {
             initiator,
             key: *key,
         })?;
@@ -117,9 +117,9 @@ fn add_keys(askers: &mut Vec<Asker>, initiator: Asking, keys: &[Asking]) -> Resu
 
 /// Adds each of some initiators with each of some keys.
 fn add_pairs(
-    askers: &mut Vec<Asker>,
-    initiators: &[Asking],
-    keys: &[Asking],
+    askers: &mut Vec<LoadInitiator>,
+    initiators: &[HeaderFieldValue],
+    keys: &[HeaderFieldValue],
 ) -> Result<(), AllocError>
     ensures { OnOk result (askers.new.items ≡ with_pairs askers.old.items initiators.now keys.now) }
 {
@@ -130,7 +130,7 @@ fn add_pairs(
 }
 
 /// Whose loads the program of a table is asked about.
-pub(crate) fn table_askers(alloc: Global, rules: &[PortRule]) -> Result<Vec<Asker>, AllocError>
+pub(crate) fn table_askers(alloc: Global, rules: &[PortRule]) -> Result<Vec<LoadInitiator>, AllocError>
     ensures { IfOk result (λ askers. askers.items ≡ table_askers rules.now) }
 {
     let initiators = values_of(alloc, rules, Field::Initiator)?;
@@ -141,7 +141,7 @@ pub(crate) fn table_askers(alloc: Global, rules: &[PortRule]) -> Result<Vec<Aske
 }
 
 /// The values after the first.
-fn behind_first(values: &[Asking]) -> &[Asking]
+fn after_first(values: &[HeaderFieldValue]) -> &[HeaderFieldValue]
     ensures { result.now ≡ drop 1 values.now }
 {
     match values {
@@ -152,22 +152,22 @@ fn behind_first(values: &[Asking]) -> &[Asking]
 
 /// Whose loads a program that is of no table is asked about: each initiator with key 00, and initiator 67 with each
 /// other key.
-fn every_asker(alloc: Global) -> Result<Vec<Asker>, AllocError>
+fn every_asker(alloc: Global) -> Result<Vec<LoadInitiator>, AllocError>
     ensures { IfOk result (λ askers. askers.items ≡ every_asker) }
 {
     let values = each_value(alloc)?;
     let values = values.as_slice();
-    let key = Asking {
+    let key = HeaderFieldValue {
         byte: 0,
         is_named: true,
     };
-    let initiator = Asking {
+    let initiator = HeaderFieldValue {
         byte: 0x67,
         is_named: true,
     };
     let mut askers = Vec::new(alloc);
     add_pairs(&mut askers, values, &[key])?;
-    add_keys(&mut askers, initiator, behind_first(values))?;
+    add_keys(&mut askers, initiator, after_first(values))?;
     Ok(askers)
 }
 
@@ -178,7 +178,7 @@ fn every_asker(alloc: Global) -> Result<Vec<Asker>, AllocError>
 /// # Errors
 ///
 /// An error if memory is refused.
-pub fn askers_of(alloc: Global, table: &Option<Policy>) -> Result<Vec<Asker>, AllocError>
+pub fn askers_of(alloc: Global, table: &Option<Policy>) -> Result<Vec<LoadInitiator>, AllocError>
     ensures { IfOk result (λ askers. askers.items ≡ askers_of table.now) }
 {
     match table {
@@ -188,7 +188,7 @@ pub fn askers_of(alloc: Global, table: &Option<Policy>) -> Result<Vec<Asker>, Al
 }
 
 /// A value in two digits, or `*` if it means all that no rule names.
-fn value_text(alloc: Global, value: Asking) -> Result<String, AllocError>
+fn value_text(alloc: Global, value: HeaderFieldValue) -> Result<String, AllocError>
     ensures { IfOk result (λ text. string_bytes text ≡ value_text value) }
 {
     if value.is_named {
@@ -220,7 +220,7 @@ fn asker_words(alloc: Global, initiator: &str, key: &str) -> Result<String, Allo
 /// # Errors
 ///
 /// An error if memory is refused.
-pub fn asker_text(alloc: Global, asker: Asker) -> Result<String, AllocError>
+pub fn asker_text(alloc: Global, asker: LoadInitiator) -> Result<String, AllocError>
     ensures { IfOk result (λ text. string_bytes text ≡ asker_text asker) }
 {
     let initiator = value_text(alloc, asker.initiator)?;

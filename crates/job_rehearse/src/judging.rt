@@ -2,10 +2,10 @@
 
 ghost use Rattle.std.specs.Prelude.{◌≡◌, ◌≤◌, ◌<◌, ◌^◌, ◌&&◌, IfOk, length};
 ghost use Rattle.rmap.specs.declared.boot.TheConstants.{STAGING_SIZE};
-ghost use Rattle.job_rehearse.specs.Judging.{HasAnswered, IsAnswer, LetsLoad, LetsPart, LetsPass, LetsWrites};
+ghost use Rattle.job_rehearse.specs.Judging.{HasAnswered, IsAnswer, LetsLoad, LetsPart, LetsPacketPass, LetsWrites};
 ghost use Rattle.job_rehearse.specs.Starts.{asked_so_far, home_of};
 
-use crate::loaders::{Loader, header_of};
+use crate::loaders::{LoadSender, header_of};
 use crate::starts::{LoadCells, Start};
 use brun::run;
 use bver::Accepted;
@@ -35,7 +35,7 @@ fn verdict_on(judge: &Accepted, port: u8, command: &Command, cells: &mut LoadCel
 fn answer_to(
     alloc: Global,
     judge: &Accepted,
-    loader: Loader,
+    loader: LoadSender,
     request: Request,
     cells: &mut LoadCells,
 ) -> Result<u64, AllocError>
@@ -60,7 +60,7 @@ fn answer_to(
 fn lets_pass(
     alloc: Global,
     judge: &Accepted,
-    loader: Loader,
+    loader: LoadSender,
     request: Request,
     cells: &mut LoadCells,
 ) -> Result<bool, AllocError>
@@ -69,7 +69,7 @@ fn lets_pass(
     requires count { request.count < 2 ^ 24 }
     requires sizes { cells.old.cells.sizes ≡ judge.now.sizes }
     ensures passes { IfOk result (λ passes.
-        LetsPass judge.now loader request passes
+        LetsPacketPass judge.now loader request passes
         (asked_so_far cells.old) (asked_so_far cells.new)) }
     ensures sizes { cells.new.cells.sizes ≡ cells.old.cells.sizes }
     ensures home { home_of cells.new.start ≡ home_of cells.old.start }
@@ -82,7 +82,7 @@ fn lets_pass(
 fn lets_part(
     alloc: Global,
     judge: &Accepted,
-    loader: Loader,
+    loader: LoadSender,
     image: &[u8],
     number: u16,
     cells: &mut LoadCells,
@@ -115,7 +115,7 @@ fn all_pass(first: bool, second: bool, third: bool, fourth: bool, fifth: bool) -
 fn lets_writes(
     alloc: Global,
     judge: &Accepted,
-    loader: Loader,
+    loader: LoadSender,
     image: &[u8],
     cells: &mut LoadCells,
 ) -> Result<bool, AllocError>
@@ -144,7 +144,7 @@ fn lets_writes(
 pub fn lets_load(
     alloc: Global,
     judge: &Accepted,
-    loader: Loader,
+    loader: LoadSender,
     image: &[u8],
     start: Start,
 ) -> Result<bool, AllocError>

@@ -13,13 +13,13 @@ use clap::ArgMatches;
 use job_config::own_node::NODE_ADDRESS;
 use job_packets::packet_options::{HeaderWords, byte_of, port_of};
 use job_packets::slips::{PacketFault, PacketWord};
-use job_parts::arguments::{is_set, text_of};
+use job_parts::arguments::{is_flag_set, text_of};
 use job_parts::usage::UsageFault;
 use std::alloc::{AllocError, Global};
 
 /// Who loads: the port at which its packets come in, and what their headers say of it and of the node.
 #[derive(Clone, Copy, Debug, PartialEq, Eq)]
-pub struct Loader {
+pub struct LoadSender {
     /// The port, 0 to 31.
     pub port: u8,
     /// The initiator logical address.
@@ -34,7 +34,7 @@ pub struct Loader {
 #[derive(Clone, Copy, Debug, PartialEq, Eq)]
 pub enum Loaders {
     /// Those of this one, at a node of 32 ports; without it those of initiator 67 with key 00, at a node of one port.
-    One(Option<Loader>),
+    One(Option<LoadSender>),
     /// Nobody's: the new policy is asked whose loads it lets pass.
     Any,
 }
@@ -57,7 +57,7 @@ fn names_loader(found: &ArgMatches) -> bool
 pub fn is_any_beside(found: &ArgMatches) -> bool
     ensures { result ≡ is_any_beside (rows_of (found_of found.now)) }
 {
-    is_set(found, "any") && (names_loader(found) || has_value(found, "slot"))
+    is_flag_set(found, "any") && (names_loader(found) || has_value(found, "slot"))
 }
 
 /// Who loads by `--port`, `--initiator` and `--key`; port 0, initiator 67 and key 00 without them.
@@ -65,14 +65,14 @@ pub fn is_any_beside(found: &ArgMatches) -> bool
 /// # Errors
 ///
 /// The slip of the first option that has a value that it may not have.
-pub fn loader_of(found: &ArgMatches) -> Result<Loader, PacketFault>
+pub fn loader_of(found: &ArgMatches) -> Result<LoadSender, PacketFault>
     ensures { MatchResult result (GivesLoader (rows_of (found_of found.now)))
         (IsBadWord (Has (GivesLoader (rows_of (found_of found.now))))) }
 {
     let port = port_of(found)?;
     let initiator = byte_of(found, "initiator", PacketWord::Initiator, 0x67)?;
     let key = byte_of(found, "key", PacketWord::Key, 0)?;
-    Ok(Loader {
+    Ok(LoadSender {
         port,
         initiator,
         key,
@@ -92,7 +92,7 @@ pub fn loaders_of(found: &ArgMatches) -> Result<Loaders, UsageFault>
     if is_any_beside(found) {
         return Err(UsageFault::BadOption);
     }
-    if is_set(found, "any") {
+    if is_flag_set(found, "any") {
         return Ok(Loaders::Any);
     }
     if !names_loader(found) {
@@ -105,12 +105,12 @@ pub fn loaders_of(found: &ArgMatches) -> Result<Loaders, UsageFault>
 }
 
 /// Who loads: the one that is named, or port 0, initiator 67 and key 00.
-pub fn loader_in(named: Option<Loader>) -> Loader
+pub fn loader_in(named: Option<LoadSender>) -> LoadSender
     ensures { result ≡ loader_in named }
 {
     match named {
         Some(loader) => loader,
-        None => Loader {
+        None => LoadSender {
             port: 0,
             initiator: 0x67,
             key: 0,
@@ -120,7 +120,7 @@ pub fn loader_in(named: Option<Loader>) -> Loader
 }
 
 /// How many ports the node has: 32 if someone is named to load, or else one.
-pub fn ports_in(named: Option<Loader>) -> u8
+pub fn ports_in(named: Option<LoadSender>) -> u8
     ensures { result ≡ ports_in named }
 {
     match named {
@@ -147,7 +147,7 @@ fn named_words(alloc: Global, port: u8, initiator: &str, key: &str) -> Result<St
 }
 
 /// What the last line says of a loader.
-fn named_text(alloc: Global, loader: Loader) -> Result<String, AllocError>
+fn named_text(alloc: Global, loader: LoadSender) -> Result<String, AllocError>
     ensures { IfOk result (λ text. string_bytes text ≡ named_text loader) }
 {
     let initiator = hex::encode_upper(alloc, &[loader.initiator])?;
@@ -160,7 +160,7 @@ fn named_text(alloc: Global, loader: Loader) -> Result<String, AllocError>
 /// # Errors
 ///
 /// An error if memory is refused.
-pub fn loader_text(alloc: Global, named: Option<Loader>) -> Result<String, AllocError>
+pub fn loader_text(alloc: Global, named: Option<LoadSender>) -> Result<String, AllocError>
     ensures { IfOk result (λ text. string_bytes text ≡ loader_text named) }
 {
     named_text(alloc, loader_in(named))
@@ -168,7 +168,7 @@ pub fn loader_text(alloc: Global, named: Option<Loader>) -> Result<String, Alloc
 
 /// The words of the headers of a loader. They are those that `packet` has without an option, except its port,
 /// initiator, key and target.
-pub fn header_of(alloc: Global, loader: Loader) -> HeaderWords
+pub fn header_of(alloc: Global, loader: LoadSender) -> HeaderWords
     ensures given { IsHeaderOf loader result }
     ensures address { has_reply_address result ≡ true }
 {

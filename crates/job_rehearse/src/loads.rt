@@ -4,12 +4,12 @@ ghost use Rattle.std.specs.Prelude.{◌≡◌, ◌≤◌, ◌+◌, Decides, IfEr
 ghost use Rattle.std.specs.List.{list_all, list_any};
 ghost use Rattle.rmap.specs.declared.boot.TheConstants.{STAGING_SIZE};
 ghost use Rattle.job_parts.specs.Stops.{StopsBy};
-ghost use Rattle.job_rehearse.specs.Loads.{AreLoaded, IsLoaded, Loads, StopsLoad, StopsTaking, TakesLoad, ending_of};
+ghost use Rattle.job_rehearse.specs.Loads.{AreLoaded, IsImageLoaded, Loads, StopsLoad, StopsTaking, TakesLoad, ending_of};
 
-use crate::loaders::{Loader, header_of};
+use crate::loaders::{LoadSender, header_of};
 use crate::steps::Rehearsing;
 use job_packets::loads::add_loads;
-use job_parts::stops::Halt;
+use job_parts::stops::JobStop;
 use job_parts::turns::take_lines;
 use single_node::SingleNode;
 use std::alloc::{AllocError, Global};
@@ -17,7 +17,7 @@ use std::io::Write;
 
 /// How the loads of an image ended.
 #[derive(Clone, Copy, Debug, PartialEq, Eq)]
-pub enum Ending {
+pub enum LoadEnd {
     /// Each write was answered with status 0, and the program of each slot is the image's.
     Loaded,
     /// A program did not let a write be done, and the program of some slot is the image's.
@@ -34,7 +34,7 @@ pub struct LoadOf<'a> {
     /// What the image is called.
     pub name: &'a str,
     /// Who loads it.
-    pub loader: Loader,
+    pub loader: LoadSender,
     /// The slots of its program, in the order of the loads.
     pub slots: &'a [u8],
     /// Its bytes, at most as many as the staging has.
@@ -47,7 +47,7 @@ fn take_load<'a, W: Write>(
     rehearsing: &mut Rehearsing,
     load: LoadOf<'_>,
     out: &mut W,
-) -> Result<(), Halt<'a>>
+) -> Result<(), JobStop<'a>>
     requires { length load.image.now ≤ STAGING_SIZE }
     ensures taken { OnOk result (TakesLoad load.entry.loader load.entry.slots.now
         load.entry.image.now rehearsing.old rehearsing.new (W.contents out.old) (W.contents out.new)) }
@@ -71,7 +71,7 @@ fn are_bytes(bytes: &[u8], image: &[u8]) -> bool
 /// above that one.
 fn is_loaded(node: &SingleNode, image: &[u8], generation: u32, slot: u8) -> Result<bool, AllocError>
     ensures { IfOk result (λ is.
-        Decides is (IsLoaded image.now (generation + 1) node.now.programs slot)) }
+        Decides is (IsImageLoaded image.now (generation + 1) node.now.programs slot)) }
 {
     if slot > 3 {
         return Ok(false);
@@ -117,19 +117,19 @@ fn is_each(loaded: &[bool]) -> bool
 
 /// How loads of an image into slots ended. That depends on whether it is loaded into each, whether a program did not
 /// let a write of them be done, and whether one was not answered with status 0.
-fn ending_of(loaded: &[bool], is_refused: bool, is_failed: bool) -> Ending
+fn ending_of(loaded: &[bool], is_refused: bool, is_failed: bool) -> LoadEnd
     ensures { result ≡ ending_of loaded.now is_refused is_failed }
 {
     if is_refused {
         if is_any(loaded) {
-            return Ending::InPart;
+            return LoadEnd::InPart;
         }
-        return Ending::LockedOut;
+        return LoadEnd::LockedOut;
     }
     if is_each(loaded) && !is_failed {
-        Ending::Loaded
+        LoadEnd::Loaded
     } else {
-        Ending::NotLoaded
+        LoadEnd::NotLoaded
     }
 }
 
@@ -144,7 +144,7 @@ pub fn load<'a, W: Write>(
     rehearsing: &mut Rehearsing,
     load: LoadOf<'_>,
     out: &mut W,
-) -> Result<Ending, Halt<'a>>
+) -> Result<LoadEnd, JobStop<'a>>
     requires { length load.image.now ≤ STAGING_SIZE }
     ensures loads { IfOk result (λ ending. Loads load.entry.name.now load.entry.loader
         load.entry.slots.now load.entry.image.now ending rehearsing.old rehearsing.new

@@ -2,10 +2,10 @@
 
 ghost use Rattle.std.specs.Prelude.{◌≡◌, ◌≤◌, ◌<◌, ◌+◌, ◌++◌, IfOk, OnOk, if◌then◌else◌, length, string_bytes};
 ghost use Rattle.rmap.specs.declared.boot.TheConstants.{STAGING_SIZE};
-ghost use Rattle.job_rehearse.specs.OpenPorts.{AreOpen, IsAt, PassesAt, TellsAsker, TellsAskers, TellsFirst, TellsPlace, answer_at, ends_run, is_open, run_line, with_end, with_kinds, with_runs};
+ghost use Rattle.job_rehearse.specs.OpenPorts.{AreOpen, IsAskerAt, PassesAt, PrintsAsker, PrintsAskers, PrintsFirstAskers, PrintsPlace, port_answer_at, ends_run, is_port_open, run_line, with_end, with_kinds, with_runs};
 
-use crate::askers::{Asker, asker_text};
-use crate::loaders::Loader;
+use crate::askers::{LoadInitiator, asker_text};
+use crate::loaders::LoadSender;
 use crate::passing::{Passing, is_kind, kind_words, loader_passing};
 use bver::Accepted;
 use std::alloc::{AllocError, Global};
@@ -25,14 +25,14 @@ fn passing_at(
     judge: &Accepted,
     image: &[u8],
     node: LoadedNode,
-    asker: Asker,
+    asker: LoadInitiator,
     port: u8,
 ) -> Result<Passing, AllocError>
     requires port { port < 32 }
     requires short { length image.now ≤ STAGING_SIZE }
     ensures { IfOk result (PassesAt judge.now image.now node asker port) }
 {
-    let loader = Loader {
+    let loader = LoadSender {
         port,
         initiator: asker.initiator.byte,
         key: asker.key.byte,
@@ -47,7 +47,7 @@ fn port_answers(
     judge: &Accepted,
     image: &[u8],
     node: LoadedNode,
-    asker: Asker,
+    asker: LoadInitiator,
 ) -> Result<Vec<Passing>, AllocError>
     requires ports { node.ports ≤ 32 }
     requires short { length image.now ≤ STAGING_SIZE }
@@ -61,24 +61,24 @@ fn port_answers(
 }
 
 /// The answer at a port; after the last it is none of those that are printed.
-fn answer_at(answers: &[Passing], port: usize) -> Passing
-    ensures { result ≡ answer_at answers.now port }
+fn port_answer_at(answers: &[Passing], port: usize) -> Passing
+    ensures { result ≡ port_answer_at answers.now port }
 {
     answers.get(port).copied().unwrap_or(Passing::Never)
 }
 
 /// Whether the answer at a port is that one.
-fn is_open(answers: &[Passing], kind: Passing, port: usize) -> bool
-    ensures { result ≡ is_open answers.now kind port }
+fn is_port_open(answers: &[Passing], kind: Passing, port: usize) -> bool
+    ensures { result ≡ is_port_open answers.now kind port }
 {
-    is_kind(kind, answer_at(answers, port))
+    is_kind(kind, port_answer_at(answers, port))
 }
 
 /// Whether a port is the last of a run of ports with that answer.
 fn ends_run(answers: &[Passing], kind: Passing, port: u8) -> bool
     ensures { result ≡ ends_run answers.now kind port }
 {
-    is_open(answers, kind, usize::from(port)) && !is_open(answers, kind, usize::from(port) + 1)
+    is_port_open(answers, kind, usize::from(port)) && !is_port_open(answers, kind, usize::from(port) + 1)
 }
 
 /// Adds the line of a run of ports.
@@ -118,9 +118,9 @@ fn add_end(
 /// The first port of the run after this port. `first` is the first port of the run in which this one is.
 fn first_after(answers: &[Passing], kind: Passing, first: u8, port: u8) -> u8
     requires { port < 32 }
-    ensures { result ≡ if is_open answers.now kind port then first else port + 1 }
+    ensures { result ≡ if is_port_open answers.now kind port then first else port + 1 }
 {
-    if is_open(answers, kind, usize::from(port)) {
+    if is_port_open(answers, kind, usize::from(port)) {
         first
     } else {
         port + 1
@@ -173,11 +173,11 @@ fn add_asker(
     image: &[u8],
     node: LoadedNode,
     lead: &str,
-    asker: Asker,
+    asker: LoadInitiator,
 ) -> Result<(), AllocError>
     requires ports { node.ports ≤ 32 }
     requires short { length image.now ≤ STAGING_SIZE }
-    ensures { OnOk result (TellsAsker judge.now image.now node lead.now asker
+    ensures { OnOk result (PrintsAsker judge.now image.now node lead.now asker
         (string_bytes text.old) (string_bytes text.new)) }
 {
     let answers = port_answers(alloc, judge, image, node, asker)?;
@@ -186,9 +186,9 @@ fn add_asker(
 }
 
 /// The asker of a place, from 0 on.
-fn asker_at(askers: &[Asker], place: usize) -> Asker
+fn asker_at(askers: &[LoadInitiator], place: usize) -> LoadInitiator
     requires { place < length askers.now }
-    ensures { IsAt askers.now place result }
+    ensures { IsAskerAt askers.now place result }
 {
     askers[place]
 }
@@ -201,13 +201,13 @@ fn add_asker_at(
     image: &[u8],
     node: LoadedNode,
     lead: &str,
-    askers: &[Asker],
+    askers: &[LoadInitiator],
     place: usize,
 ) -> Result<(), AllocError>
     requires ports { node.ports ≤ 32 }
     requires short { length image.now ≤ STAGING_SIZE }
     requires place { place < length askers.now }
-    ensures { OnOk result (TellsPlace judge.now image.now node lead.now askers.now place
+    ensures { OnOk result (PrintsPlace judge.now image.now node lead.now askers.now place
         (string_bytes text.old) (string_bytes text.new)) }
 {
     let asker = asker_at(askers, place);
@@ -222,11 +222,11 @@ fn add_askers(
     image: &[u8],
     node: LoadedNode,
     lead: &str,
-    askers: &[Asker],
+    askers: &[LoadInitiator],
 ) -> Result<(), AllocError>
     requires ports { node.ports ≤ 32 }
     requires short { length image.now ≤ STAGING_SIZE }
-    ensures { OnOk result (TellsFirst judge.now image.now node lead.now askers.now (length askers.now)
+    ensures { OnOk result (PrintsFirstAskers judge.now image.now node lead.now askers.now (length askers.now)
         (string_bytes text.old) (string_bytes text.new)) }
 {
     for place in 0..askers.len() {
@@ -249,12 +249,12 @@ pub fn loaders(
     image: &[u8],
     node: LoadedNode,
     lead: &str,
-    askers: &[Asker],
+    askers: &[LoadInitiator],
 ) -> Result<String, AllocError>
     requires ports { node.ports ≤ 32 }
     requires short { length image.now ≤ STAGING_SIZE }
     ensures { IfOk result (λ text.
-        TellsAskers judge.now image.now node lead.now askers.now (string_bytes text)) }
+        PrintsAskers judge.now image.now node lead.now askers.now (string_bytes text)) }
 {
     let mut text = String::new(alloc);
     add_askers(&mut text, alloc, judge, image, node, lead, askers)?;

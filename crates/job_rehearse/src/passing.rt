@@ -3,10 +3,10 @@
 ghost use Rattle.std.specs.Prelude.{◌≡◌, ◌≤◌, ◌<◌, IfOk, length};
 ghost use Rattle.rmap.specs.declared.boot.TheConstants.{STAGING_SIZE};
 ghost use Rattle.job_rehearse.specs.Judging.{IsPassing, passing_of};
-ghost use Rattle.job_rehearse.specs.OpenPorts.{is_kind, kind_words, number_of};
+ghost use Rattle.job_rehearse.specs.OpenPorts.{is_kind, kind_words, answer_number_of};
 
 use crate::judging::lets_load;
-use crate::loaders::Loader;
+use crate::loaders::LoadSender;
 use crate::starts::Start;
 use bver::Accepted;
 use std::alloc::{AllocError, Global};
@@ -42,8 +42,8 @@ fn passing_of(fresh: bool, spent: bool) -> Passing
 }
 
 /// The number of an answer.
-fn number_of(passing: Passing) -> u8
-    ensures { result ≡ number_of passing }
+fn answer_number_of(passing: Passing) -> u8
+    ensures { result ≡ answer_number_of passing }
 {
     match passing {
         Passing::Always => 0,
@@ -57,7 +57,7 @@ fn number_of(passing: Passing) -> u8
 pub fn is_kind(kind: Passing, passing: Passing) -> bool
     ensures { result ≡ is_kind kind passing }
 {
-    number_of(kind) == number_of(passing)
+    answer_number_of(kind) == answer_number_of(passing)
 }
 
 /// What a line says of when loads pass.
@@ -79,7 +79,7 @@ pub fn kind_words(kind: Passing) -> &'static str
 pub fn loader_passing(
     alloc: Global,
     judge: &Accepted,
-    loader: Loader,
+    loader: LoadSender,
     image: &[u8],
 ) -> Result<Passing, AllocError>
     requires port { loader.port < 32 }

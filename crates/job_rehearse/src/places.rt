@@ -3,9 +3,9 @@
 ghost use Rattle.std.specs.Prelude.{◌≡◌, ◌≤◌, IfErr, IfOk};
 ghost use Rattle.clap.specs.Walk.{rows_of};
 ghost use Rattle.clap.specs.Matches.{found_of};
-ghost use Rattle.job_rehearse.specs.Places.{GivesPlace, HoldsNoPlace, HoldsPlace, IsBegunAt, RefusesPlace, has_port, loaded_at, loader_on, sizes_at};
+ghost use Rattle.job_rehearse.specs.Places.{GivesRehearsalNode, HoldsNoPlace, HoldsPlace, IsBegunAt, RefusesPlace, has_port, loaded_at, loader_on, sizes_at};
 
-use crate::loaders::{Loader, loader_in, ports_in};
+use crate::loaders::{LoadSender, loader_in, ports_in};
 use crate::open_ports::LoadedNode;
 use crate::steps::Rehearsing;
 use bver::Accepted;
@@ -33,7 +33,7 @@ pub enum PlaceWords {
 
 /// The node.
 #[derive(Debug, Drop)]
-pub enum Place {
+pub enum RehearsalNode {
     /// One with these maps, logical address FE and one bank, for which nothing is published.
     Plain(MapSizes),
     /// That of a file.
@@ -42,7 +42,7 @@ pub enum Place {
 
 /// The node by the options. `BadOption` if `--node` is beside `--maps`, and if the maps are none.
 pub(crate) fn place_of(alloc: Global, found: &ArgMatches) -> Result<PlaceWords, UsageFault>
-    ensures ok { IfOk result (GivesPlace (rows_of (found_of found.now))) }
+    ensures ok { IfOk result (GivesRehearsalNode (rows_of (found_of found.now))) }
     ensures err { IfErr result (RefusesPlace (rows_of (found_of found.now))) }
 {
     let Some(name) = text_of(found, "node") else {
@@ -59,53 +59,53 @@ pub(crate) fn place_in<'a, F: Files>(
     alloc: Global,
     words: &'a PlaceWords,
     files: &mut F,
-) -> Result<Place, Fault<'a>>
+) -> Result<RehearsalNode, Fault<'a>>
     ensures place { IfOk result (λ place. HoldsPlace F.reads words.now files.old place files.new) }
     ensures none { IfErr result (HoldsNoPlace F.reads words.now files.old files.new) }
 {
     match words {
-        PlaceWords::Maps(sizes) => Ok(Place::Plain(*sizes)),
+        PlaceWords::Maps(sizes) => Ok(RehearsalNode::Plain(*sizes)),
         PlaceWords::File(name) => {
             let read = node_in(alloc, files, name.as_str())?;
-            Ok(Place::Own(read.node))
+            Ok(RehearsalNode::Own(read.node))
         }
     }
 }
 
-impl Place {
+impl RehearsalNode {
     /// How many cells each map has, and of which kind it is.
     pub fn sizes(&self) -> MapSizes
         ensures { result ≡ sizes_at self.now }
     {
         match self {
-            Place::Plain(sizes) => *sizes,
-            Place::Own(own) => own.sizes(),
+            RehearsalNode::Plain(sizes) => *sizes,
+            RehearsalNode::Own(own) => own.sizes(),
         }
     }
 
     /// Whether the node has the port of the loader that is named.
-    pub fn has_port(&self, named: Option<Loader>) -> bool
+    pub fn has_port(&self, named: Option<LoadSender>) -> bool
         ensures { result ≡ has_port self.now named }
     {
         match self {
-            Place::Plain(_) => true,
-            Place::Own(own) => loader_in(named).port < own.ports(),
+            RehearsalNode::Plain(_) => true,
+            RehearsalNode::Own(own) => loader_in(named).port < own.ports(),
         }
     }
 
     /// Who loads at the node: the one that is named, or port 0, initiator 67 and key 00.
-    pub fn loader(&self, named: Option<Loader>) -> Loader
+    pub fn loader(&self, named: Option<LoadSender>) -> LoadSender
         ensures { result ≡ loader_on self.now named }
     {
         let mut loader = loader_in(named);
-        if let Place::Own(own) = self {
+        if let RehearsalNode::Own(own) = self {
             loader.target = own.address();
         }
         loader
     }
 }
 
-impl Place {
+impl RehearsalNode {
     /// The node about whose loads a program is asked. If nothing else is said of it, it has logical address FE and 32
     /// ports. No file gives more ports.
     pub fn loaded(&self) -> LoadedNode
@@ -113,11 +113,11 @@ impl Place {
         ensures ports { result.ports ≤ 32 }
     {
         match self {
-            Place::Plain(_) => LoadedNode {
+            RehearsalNode::Plain(_) => LoadedNode {
                 target: NODE_ADDRESS,
                 ports: PORTS,
             },
-            Place::Own(own) => LoadedNode {
+            RehearsalNode::Own(own) => LoadedNode {
                 target: own.address(),
                 ports: own.ports().min(PORTS),
             },
@@ -129,15 +129,15 @@ impl Place {
 /// condition is a program that was accepted for its maps.
 pub(crate) fn begun_at(
     alloc: Global,
-    place: &Place,
+    place: &RehearsalNode,
     program: Accepted,
-    named: Option<Loader>,
+    named: Option<LoadSender>,
 ) -> Result<Rehearsing, AllocError>
     requires { program.sizes ≡ sizes_at place.now }
     ensures { IfOk result (IsBegunAt place.now program named) }
 {
     match place {
-        Place::Plain(_) => Rehearsing::new(alloc, program, ports_in(named)),
-        Place::Own(own) => Ok(Rehearsing::at(JobNode::of(alloc, own, program)?)),
+        RehearsalNode::Plain(_) => Rehearsing::new(alloc, program, ports_in(named)),
+        RehearsalNode::Own(own) => Ok(Rehearsing::at(JobNode::of(alloc, own, program)?)),
     }
 }

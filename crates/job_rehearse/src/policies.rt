@@ -3,10 +3,10 @@
 ghost use Rattle.std.specs.Prelude.{◌≡◌, ◌≤◌, IfErr, IfOk, false, length};
 ghost use Rattle.bpf.specs.Program.{IsProgram, image_bytes};
 ghost use Rattle.rmap.specs.declared.boot.TheConstants.{STAGING_SIZE};
-ghost use Rattle.job_rehearse.specs.Policies.{AreAsked, AreImages, AreNoImages, ArePolicies, AreUnasked, AreUnready, GivesNoPolicy, HoldsAsked, HoldsBoth, HoldsNotAsked, HoldsNotBoth, HoldsPolicy, IsCompiledOf, IsNoImage, IsNoPolicy, IsNotAccepted, IsTableOf, IsTooLong, is_image};
+ghost use Rattle.job_rehearse.specs.Policies.{AreRehearsed, AreImages, AreNoImages, ArePolicies, AreUnasked, AreUnready, GivesNoPolicy, HoldsAsked, HoldsBoth, HoldsNotAsked, HoldsNotBoth, HoldsPolicyFor, IsCompiledOf, IsFaultyImage, HasNoPolicy, IsNotAccepted, IsTextOfTable, IsImageTooLong, begins_image};
 ghost use Rattle.job_rehearse.specs.declared.policies.NoPolicy.TheVariants.{Ended};
 
-use crate::askers::{Asker, askers_of};
+use crate::askers::{LoadInitiator, askers_of};
 use crate::rehearse::RehearseWords;
 use bpf::{Image, ImageFault};
 use bver::{Accepted, verify};
@@ -62,18 +62,18 @@ pub struct Policies {
 
 /// The policies, of which the new one is asked.
 #[derive(Drop)]
-pub struct Asked {
+pub struct ComparedPolicies {
     /// The policies.
     pub policies: Policies,
     /// The program of the new policy, which may judge on the node.
     pub judge: Accepted,
     /// Whose loads it is asked about.
-    pub askers: Vec<Asker>,
+    pub askers: Vec<LoadInitiator>,
 }
 
 /// Whether bytes begin as those of an image do.
-fn is_image(bytes: &[u8]) -> bool
-    ensures { result ≡ is_image bytes.now }
+fn begins_image(bytes: &[u8]) -> bool
+    ensures { result ≡ begins_image bytes.now }
 {
     bytes.starts_with(&MAGIC)
 }
@@ -81,7 +81,7 @@ fn is_image(bytes: &[u8]) -> bool
 /// The image that the bytes are.
 fn image_of<'a>(alloc: Global, bytes: &[u8]) -> Result<Image, Fault<'a>>
     ensures image { IfOk result (λ image. IsProgram image × (bytes.now ≡ image_bytes image)) }
-    ensures refused { IfErr result (IsNoImage bytes.now) }
+    ensures refused { IfErr result (IsFaultyImage bytes.now) }
 {
     Ok(Image::read(alloc, bytes)?)
 }
@@ -93,9 +93,9 @@ fn table_of<'a>(
     bytes: Vec<u8>,
     sizes: &MapSizes,
 ) -> Result<Policy, NoPolicy<'a>>
-    requires { is_image bytes.items ≡ false }
-    ensures table { IfOk result (IsTableOf sizes.now bytes.items) }
-    ensures none { IfErr result (IsNoPolicy name.now sizes.now bytes.items) }
+    requires { begins_image bytes.items ≡ false }
+    ensures table { IfOk result (IsTextOfTable sizes.now bytes.items) }
+    ensures none { IfErr result (HasNoPolicy name.now sizes.now bytes.items) }
 {
     let Ok(text) = String::from_utf8(bytes) else {
         return Err(NoPolicy::Ended(Fault::CannotRead(name)));
@@ -113,9 +113,9 @@ fn compiled<'a>(
     bytes: Vec<u8>,
     sizes: &MapSizes,
 ) -> Result<(Image, Policy), NoPolicy<'a>>
-    requires { is_image bytes.items ≡ false }
+    requires { begins_image bytes.items ≡ false }
     ensures policy { IfOk result (λ made. IsCompiledOf sizes.now bytes.items made.0 made.1) }
-    ensures none { IfErr result (IsNoPolicy name.now sizes.now bytes.items) }
+    ensures none { IfErr result (HasNoPolicy name.now sizes.now bytes.items) }
 {
     let table = table_of(alloc, name, bytes, sizes)?;
     match compile_policy(alloc, &table, sizes) {
@@ -134,12 +134,12 @@ fn policy_in<'a, F: Files>(
     sizes: &MapSizes,
 ) -> Result<(Image, Option<Policy>), NoPolicy<'a>>
     ensures policy { IfOk result (λ made.
-        HoldsPolicy F.reads files.old name.now sizes.now made.0 made.1 files.new) }
+        HoldsPolicyFor F.reads files.old name.now sizes.now made.0 made.1 files.new) }
     ensures none { IfErr result
         (GivesNoPolicy F.reads files.old name.now sizes.now files.new) }
 {
     let bytes = bytes_in(alloc, files, name)?;
-    if is_image(bytes.as_slice()) {
+    if begins_image(bytes.as_slice()) {
         return Ok((image_of(alloc, bytes.as_slice())?, None));
     }
     let (image, table) = compiled(alloc, name, bytes, sizes)?;
@@ -174,7 +174,7 @@ fn accepted<'a>(alloc: Global, image: &Image, sizes: &MapSizes) -> Result<Accept
 pub(crate) fn bytes_of<'a>(image: &Image) -> Result<Vec<u8>, Fault<'a>>
     ensures bytes { IfOk result (λ bytes. bytes.items ≡ image_bytes image.now) }
     ensures short { IfOk result (λ bytes. length bytes.items ≤ STAGING_SIZE) }
-    ensures refused { IfErr result (IsTooLong image.now) }
+    ensures refused { IfErr result (IsImageTooLong image.now) }
 {
     let bytes = image.write()?;
     if bytes.len() > STAGING_SIZE as usize {
@@ -220,14 +220,14 @@ pub fn policies_in<'a, F: Files>(
 }
 
 /// What is asked of two images.
-fn asked_of<'a>(alloc: Global, images: &Images, sizes: &MapSizes) -> Result<Asked, Fault<'a>>
-    ensures asked { IfOk result (AreAsked images.now sizes.now) }
+fn asked_of<'a>(alloc: Global, images: &Images, sizes: &MapSizes) -> Result<ComparedPolicies, Fault<'a>>
+    ensures asked { IfOk result (AreRehearsed images.now sizes.now) }
     ensures refused { IfErr result (AreUnasked images.now sizes.now) }
 {
     let policies = policies_of(alloc, &images.old, &images.new, sizes)?;
     let judge = accepted(alloc, &images.new, sizes)?;
     let askers = askers_of(alloc, &images.table)?;
-    Ok(Asked {
+    Ok(ComparedPolicies {
         policies,
         judge,
         askers,
@@ -244,7 +244,7 @@ pub fn asked_in<'a, F: Files>(
     words: &'a RehearseWords,
     sizes: &MapSizes,
     files: &mut F,
-) -> Result<Asked, NoPolicy<'a>>
+) -> Result<ComparedPolicies, NoPolicy<'a>>
     ensures asked { IfOk result (HoldsAsked F.reads words.now sizes.now files.old files.new) }
     ensures none { IfErr result (HoldsNotAsked F.reads words.now sizes.now files.old files.new) }
 {

@@ -12,15 +12,15 @@ ghost use Rattle.rmap.specs.declared.boot.TheConstants.{STAGING_SIZE};
 ghost use Rattle.job_parts.specs.declared.faults.Fault.TheVariants.{NoMemory};
 ghost use Rattle.job_rehearse.specs.RehearseJob.{GivesSlots, NamesRehearse, RefusesRehearse, RefusesSlots, rehearse_app};
 ghost use Rattle.job_rehearse.specs.Loaders.{loader_text};
-ghost use Rattle.job_rehearse.specs.Places.{first_read, maps_in, second_read, sizes_at};
+ghost use Rattle.job_rehearse.specs.Places.{first_read, maps_of_words, second_read, sizes_at};
 ghost use Rattle.job_rehearse.specs.declared.policies.NoPolicy.TheVariants.{Ended};
-ghost use Rattle.job_rehearse.specs.Rehearsed.{AsksAny, DoesAny, DoesAt, DoesOne, IsNotRehearsed, IsStuck, IsUnasked, IsUndone, IsUndoneAt, Rehearses, RehearsesFile, TellsBad, any_end, back_line, there_line};
+ghost use Rattle.job_rehearse.specs.Rehearsed.{AsksAny, DoesAny, DoesAt, DoesOne, IsNotRehearsed, IsRehearsalStuck, IsUnasked, IsUndone, IsUndoneAt, Rehearses, RehearsesFile, PrintsFaultyTable, any_end, back_line, there_line};
 
-use crate::loaders::{Loader, Loaders, loader_text, loaders_of};
-use crate::loads::{Ending, LoadOf, load};
+use crate::loaders::{LoadSender, Loaders, loader_text, loaders_of};
+use crate::loads::{LoadEnd, LoadOf, load};
 use crate::open_ports::{LoadedNode, loaders};
-use crate::places::{Place, PlaceWords, begun_at, place_in, place_of};
-use crate::policies::{Asked, NoPolicy, Policies, asked_in, policies_in};
+use crate::places::{RehearsalNode, PlaceWords, begun_at, place_in, place_of};
+use crate::policies::{ComparedPolicies, NoPolicy, Policies, asked_in, policies_in};
 use clap::{ArgMatches, Command};
 use job_config::sources::node_option;
 use job_packets::numbers::{every_slot, slots_written};
@@ -28,8 +28,8 @@ use job_parts::arguments::{file, flag, name_of, option, text_of};
 use job_parts::inputs::{Content, InputFile, Inputs};
 use job_parts::options::maps_option;
 use job_parts::printing::print_text;
-use job_parts::status::Status;
-use job_parts::stops::Halt;
+use job_parts::status::ExitStatus;
+use job_parts::stops::JobStop;
 use job_parts::storage::Files;
 use job_parts::two_files::{are_one_input, print_named_fault};
 use job_parts::usage::UsageFault;
@@ -71,8 +71,8 @@ impl RehearseWords {
 
     /// How many cells each map of the node has, if no file says it.
     pub fn sizes(&self) -> Option<&MapSizes>
-        ensures { MatchOption result (maps_in self.now.place ≡ None)
-            (λ sizes. maps_in self.now.place ≡ Some sizes.now) }
+        ensures { MatchOption result (maps_of_words self.now.place ≡ None)
+            (λ sizes. maps_of_words self.now.place ≡ Some sizes.now) }
     {
         match &self.place {
             PlaceWords::Maps(sizes) => Some(sizes),
@@ -166,25 +166,25 @@ pub fn rehearse_job(alloc: Global, found: &ArgMatches) -> Result<RehearseWords, 
 }
 
 /// What is printed if the load of the new policy ended so; nothing, if it is loaded.
-fn there_line(ending: Ending) -> Option<&'static str>
+fn there_line(ending: LoadEnd) -> Option<&'static str>
     ensures { option_map (λ line. line.now) result ≡ there_line ending }
 {
     match ending {
-        Ending::Loaded => None,
-        Ending::InPart => Some("NEW is loaded in part"),
-        Ending::LockedOut => Some("NEW is locked out"),
-        Ending::NotLoaded => Some("NEW is not loaded"),
+        LoadEnd::Loaded => None,
+        LoadEnd::InPart => Some("NEW is loaded in part"),
+        LoadEnd::LockedOut => Some("NEW is locked out"),
+        LoadEnd::NotLoaded => Some("NEW is not loaded"),
     }
 }
 
 /// What is printed if the load of the old policy under the new one ended so, and the exit status.
-fn back_line(ending: Ending) -> (&'static str, Status)
+fn back_line(ending: LoadEnd) -> (&'static str, ExitStatus)
     ensures { (result.0.now, result.1) ≡ back_line ending }
 {
     match ending {
-        Ending::Loaded => ("NEW lets OLD be loaded", Status::Done),
-        Ending::InPart | Ending::LockedOut => ("NEW locks loads out", Status::Failed),
-        Ending::NotLoaded => ("OLD is not loaded", Status::Failed),
+        LoadEnd::Loaded => ("NEW lets OLD be loaded", ExitStatus::Done),
+        LoadEnd::InPart | LoadEnd::LockedOut => ("NEW locks loads out", ExitStatus::Failed),
+        LoadEnd::NotLoaded => ("OLD is not loaded", ExitStatus::Failed),
     }
 }
 
@@ -200,17 +200,17 @@ fn print_end<W: Write>(out: &mut W, line: &str, who: &str) -> io::Result<()>
 fn rehearse<'a, W: Write>(
     alloc: Global,
     words: &RehearseWords,
-    place: &Place,
-    named: Option<Loader>,
+    place: &RehearsalNode,
+    named: Option<LoadSender>,
     policies: Policies,
     out: &mut W,
-) -> Result<Status, Halt<'a>>
+) -> Result<ExitStatus, JobStop<'a>>
     requires sizes { policies.program.sizes ≡ sizes_at place.now }
     requires old { length policies.old.items ≤ STAGING_SIZE }
     requires new { length policies.new.items ≤ STAGING_SIZE }
     ensures done { IfOk result (Rehearses place.now words.now.slots.items named policies
         (W.contents out.old) (W.contents out.new)) }
-    ensures stops { IfErr result (StopsBy (IsStuck place.now words.now.slots.items named policies
+    ensures stops { IfErr result (StopsBy (IsRehearsalStuck place.now words.now.slots.items named policies
         (W.contents out.old) (W.contents out.new))) }
 {
     let who = loader_text(alloc, named)?;
@@ -225,7 +225,7 @@ fn rehearse<'a, W: Write>(
     };
     if let Some(line) = there_line(load(alloc, &mut rehearsing, new, out)?) {
         print_end(out, line, who.as_str())?;
-        return Ok(Status::Failed);
+        return Ok(ExitStatus::Failed);
     }
     let old = LoadOf {
         name: "OLD",
@@ -239,17 +239,17 @@ fn rehearse<'a, W: Write>(
 }
 
 /// Prints why there are no policies, if a table has a fault; any other fault ends the job.
-fn tell_none<'a, W: Write>(none: NoPolicy<'a>, out: &mut W) -> Result<Status, Halt<'a>>
-    ensures told { IfOk result
-        (TellsBad (λ it. it ≡ none.entry) (W.contents out.old) (W.contents out.new)) }
+fn report_none<'a, W: Write>(none: NoPolicy<'a>, out: &mut W) -> Result<ExitStatus, JobStop<'a>>
+    ensures reported { IfOk result
+        (PrintsFaultyTable (λ it. it ≡ none.entry) (W.contents out.old) (W.contents out.new)) }
     ensures stops { IfErr result (StopsBy (λ fault.
         (none.entry ≡ Ended fault) × (W.contents out.new ≡ W.contents out.old))) }
 {
     match none {
-        NoPolicy::Ended(fault) => Err(Halt::Ended(fault)),
+        NoPolicy::Ended(fault) => Err(JobStop::Ended(fault)),
         NoPolicy::BadTable(name, fault) => {
             print_named_fault(out, name, &fault)?;
-            Ok(Status::Failed)
+            Ok(ExitStatus::Failed)
         }
     }
 }
@@ -258,11 +258,11 @@ fn tell_none<'a, W: Write>(none: NoPolicy<'a>, out: &mut W) -> Result<Status, Ha
 fn rehearse_at<'a, F: Files, W: Write>(
     alloc: Global,
     words: &'a RehearseWords,
-    place: &Place,
-    named: Option<Loader>,
+    place: &RehearsalNode,
+    named: Option<LoadSender>,
     files: &mut F,
     out: &mut W,
-) -> Result<Status, Halt<'a>>
+) -> Result<ExitStatus, JobStop<'a>>
     ensures done { IfOk result (DoesAt F.reads words.now place.now named files.old files.new
         (W.contents out.old) (W.contents out.new)) }
     ensures stops { IfErr result (StopsBy (IsUndoneAt F.reads words.now place.now named files.old
@@ -270,7 +270,7 @@ fn rehearse_at<'a, F: Files, W: Write>(
 {
     match policies_in(alloc, words, &place.sizes(), files) {
         Ok(policies) => rehearse(alloc, words, place, named, policies, out),
-        Err(none) => tell_none(none, out),
+        Err(none) => report_none(none, out),
     }
 }
 
@@ -279,10 +279,10 @@ fn rehearse_at<'a, F: Files, W: Write>(
 fn rehearse_one<'a, F: Files, W: Write>(
     alloc: Global,
     words: &'a RehearseWords,
-    named: Option<Loader>,
+    named: Option<LoadSender>,
     files: &mut F,
     out: &mut W,
-) -> Result<Status, Halt<'a>>
+) -> Result<ExitStatus, JobStop<'a>>
     ensures done { IfOk result (DoesOne F.reads words.now named files.old files.new
         (W.contents out.old) (W.contents out.new)) }
     ensures stops { IfErr result (StopsBy (IsUndone F.reads words.now named files.old files.new
@@ -290,19 +290,19 @@ fn rehearse_one<'a, F: Files, W: Write>(
 {
     let place = place_in(alloc, &words.place, files)?;
     if !place.has_port(named) {
-        return Ok(Status::Misused);
+        return Ok(ExitStatus::Misused);
     }
     rehearse_at(alloc, words, &place, named, files, out)
 }
 
 /// What is printed of whose loads the new policy lets pass, if these are their lines, and the exit status.
-fn any_end(lines: &str) -> (&str, Status)
+fn any_end(lines: &str) -> (&str, ExitStatus)
     ensures { (result.0.now, result.1) ≡ any_end lines.now }
 {
     if lines.is_empty() {
-        ("loads by nobody\n", Status::Failed)
+        ("loads by nobody\n", ExitStatus::Failed)
     } else {
-        (lines, Status::Done)
+        (lines, ExitStatus::Done)
     }
 }
 
@@ -310,9 +310,9 @@ fn any_end(lines: &str) -> (&str, Status)
 fn ask_any<'a, W: Write>(
     alloc: Global,
     node: LoadedNode,
-    asked: &Asked,
+    asked: &ComparedPolicies,
     out: &mut W,
-) -> Result<Status, Halt<'a>>
+) -> Result<ExitStatus, JobStop<'a>>
     requires ports { node.ports ≤ 32 }
     requires short { length asked.now.policies.old.items ≤ STAGING_SIZE }
     ensures done { IfOk result
@@ -334,7 +334,7 @@ fn rehearse_any<'a, F: Files, W: Write>(
     words: &'a RehearseWords,
     files: &mut F,
     out: &mut W,
-) -> Result<Status, Halt<'a>>
+) -> Result<ExitStatus, JobStop<'a>>
     ensures done { IfOk result (DoesAny F.reads words.now files.old files.new
         (W.contents out.old) (W.contents out.new)) }
     ensures stops { IfErr result (StopsBy (IsUnasked F.reads words.now files.old files.new
@@ -343,7 +343,7 @@ fn rehearse_any<'a, F: Files, W: Write>(
     let place = place_in(alloc, &words.place, files)?;
     match asked_in(alloc, words, &place.sizes(), files) {
         Ok(asked) => ask_any(alloc, place.loaded(), &asked, out),
-        Err(none) => tell_none(none, out),
+        Err(none) => report_none(none, out),
     }
 }
 
@@ -362,7 +362,7 @@ pub fn rehearse_file<'a, F: Files, W: Write>(
     words: &'a RehearseWords,
     files: &mut F,
     out: &mut W,
-) -> Result<Status, Halt<'a>>
+) -> Result<ExitStatus, JobStop<'a>>
     ensures done { IfOk result (RehearsesFile F.reads words.now files.old files.new
         (W.contents out.old) (W.contents out.new)) }
     ensures stops { IfErr result (StopsBy (IsNotRehearsed F.reads words.now files.old files.new

@@ -5,7 +5,7 @@ ghost use Rattle.machine.specs.Runs.{call};
 ghost use Rattle.machine.specs.Sizes.{kind_of_map};
 ghost use Rattle.machine.specs.Step.{question};
 ghost use Rattle.plain_cells.specs.Words.{IsOfCell};
-ghost use Rattle.job_rehearse.specs.Starts.{AreAnswered, AreBegun, asked_so_far, home_of, raised_answer};
+ghost use Rattle.job_rehearse.specs.Starts.{AreAnsweredFrom, AreBegun, asked_so_far, home_of, raised_answer};
 
 use brun::Counters;
 use machine::{Helper, MapKind, MapSizes, Question};
@@ -98,7 +98,7 @@ impl LoadCells {
 
     /// A law and no work: cells that began so answered the calls so far, in order.
     pub fn answer_in_order(&self)
-        ensures { AreAnswered self.now.start self.now.cells.sizes (asked_so_far self.now) }
+        ensures { AreAnsweredFrom self.now.start self.now.cells.sizes (asked_so_far self.now) }
     {
         self.cells.answer_in_order();
     }

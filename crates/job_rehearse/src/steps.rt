@@ -4,13 +4,13 @@ ghost use Rattle.std.specs.Prelude.{◌≡◌, ◌<◌, [], IfErr, IfOk, false};
 ghost use Rattle.job_nodes.specs.JobNode.{alone};
 ghost use Rattle.rmap.specs.Command.{discard_of};
 ghost use Rattle.spw.specs.Line.{IsPacketLine};
-ghost use Rattle.job_rehearse.specs.Steps.{IsBegun, IsNoPacket, IsNoStep, TakesStep, is_failed, is_refused, is_write, step_at, step_of};
+ghost use Rattle.job_rehearse.specs.Steps.{IsBegunNode, IsNoPacket, IsNoStep, TakesStep, is_failed, is_refused, is_write, step_at, load_step_of};
 
 use crate::words::{print_step, succeeds};
 use bver::Accepted;
 use job_nodes::node::{JobNode, node_config};
 use job_parts::bad_lines::BadLine;
-use job_parts::stops::LineHalt;
+use job_parts::stops::LineStop;
 use job_parts::turns::TakesLines;
 use node_parts::Served;
 use rmap::{Command, LOAD_REGISTER, ReplyBuf};
@@ -21,7 +21,7 @@ use std::io::Write;
 
 /// What a packet of a load is.
 #[derive(Clone, Copy, Debug, PartialEq, Eq)]
-pub enum Step {
+pub enum LoadStep {
     /// The write of a part of the image to the staging.
     Part,
     /// The control write, which asks to load what is staged.
@@ -31,48 +31,48 @@ pub enum Step {
 }
 
 /// What a command of a load is, by its address.
-fn step_at(command: &Command) -> Step
+fn step_at(command: &Command) -> LoadStep
     ensures { result ≡ step_at command.now }
 {
     if command.address() != LOAD_REGISTER {
-        return Step::Part;
+        return LoadStep::Part;
     }
     if command.writes() {
-        Step::Control
+        LoadStep::Control
     } else {
-        Step::Result
+        LoadStep::Result
     }
 }
 
 /// What a packet of a load is.
-fn step_of(packet: &Packet) -> Step
-    ensures { result ≡ step_of packet.now (discard_of packet.now.bytes) }
+fn load_step_of(packet: &Packet) -> LoadStep
+    ensures { result ≡ load_step_of packet.now (discard_of packet.now.bytes) }
 {
     match Command::view(packet) {
         Ok(command) => step_at(&command),
-        Err(_) => Step::Part,
+        Err(_) => LoadStep::Part,
     }
 }
 
 /// Whether a packet of a load writes. What reads the load result does nothing.
-fn is_write(step: Step) -> bool
+fn is_write(step: LoadStep) -> bool
     ensures { result ≡ is_write step }
 {
     match step {
-        Step::Part | Step::Control => true,
-        Step::Result => false,
+        LoadStep::Part | LoadStep::Control => true,
+        LoadStep::Result => false,
     }
 }
 
 /// Whether the program that judged a packet of a load does not let it write: its verdict is not 0.
-fn is_refused(step: Step, verdict: u64) -> bool
+fn is_refused(step: LoadStep, verdict: u64) -> bool
     ensures { result ≡ is_refused step verdict }
 {
     is_write(step) && verdict != 0
 }
 
 /// Whether a packet of a load that writes was not answered with status 0.
-fn is_failed(step: Step, served: Served) -> bool
+fn is_failed(step: LoadStep, served: Served) -> bool
     ensures { result ≡ is_failed step served }
 {
     is_write(step) && !succeeds(served)
@@ -80,8 +80,8 @@ fn is_failed(step: Step, served: Served) -> bool
 
 /// The port and the packet that a line writes, for a node with this many ports.
 fn packet_at(alloc: Global, line: &str, ports: u8) -> Result<(u8, Packet), BadLine>
-    ensures packet { IfOk result (λ came. IsPacketLine line.now came.0 came.1) }
-    ensures port { IfOk result (λ came. came.0 < ports) }
+    ensures packet { IfOk result (λ received. IsPacketLine line.now received.0 received.1) }
+    ensures port { IfOk result (λ received. received.0 < ports) }
     ensures none { IfErr result (IsNoPacket line.now ports) }
 {
     let (port, packet) = read_line(alloc, line)?;
@@ -112,7 +112,7 @@ impl Rehearsing {
     ///
     /// An error if memory is refused.
     pub fn new(alloc: Global, program: Accepted, ports: u8) -> Result<Rehearsing, AllocError>
-        ensures { IfOk result (IsBegun program ports) }
+        ensures { IfOk result (IsBegunNode program ports) }
     {
         let config = node_config(ports, program.sizes());
         // Only memory can be refused to it.
@@ -155,12 +155,12 @@ impl TakesLines for Rehearsing {
     ghost stops = { IsNoStep };
 
     /// Serves the packet that a line writes, and prints what it is and how it ended.
-    fn take<W: Write>(&mut self, alloc: Global, line: &str, out: &mut W) -> Result<(), LineHalt> {
+    fn take<W: Write>(&mut self, alloc: Global, line: &str, out: &mut W) -> Result<(), LineStop> {
         let (port, packet) = packet_at(alloc, line, self.node.ports())?;
-        let step = step_of(&packet);
-        let told = self.node.serve_told(alloc, port, packet, &mut self.reply);
-        self.refused = self.refused || is_refused(step, told.verdict);
-        self.failed = self.failed || is_failed(step, told.served);
-        Ok(print_step(out, step, told.served, self.reply.bytes())?)
+        let step = load_step_of(&packet);
+        let reported = self.node.serve_with_program(alloc, port, packet, &mut self.reply);
+        self.refused = self.refused || is_refused(step, reported.verdict);
+        self.failed = self.failed || is_failed(step, reported.served);
+        Ok(print_step(out, step, reported.served, self.reply.bytes())?)
     }
 }

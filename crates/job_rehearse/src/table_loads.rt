@@ -7,10 +7,10 @@ ghost use Rattle.rmap.specs.declared.boot.TheConstants.{STAGING_SIZE};
 ghost use Rattle.job_rehearse.specs.Judging.{IsPassing};
 ghost use Rattle.job_rehearse.specs.OpenPorts.{is_kind};
 ghost use Rattle.job_rehearse.specs.declared.passing.Passing.TheVariants.{Always};
-ghost use Rattle.job_rehearse.specs.TableLoads.{AddsOwn, AsksOf, AsksTable, CanBeMended, DoorsOf, FitsStaging, LetsSixtySeven, Mends, TellsBoth, TellsDoors, TellsLoaders, TellsLoads, TellsOf, TellsPolicy, TellsShut, is_feed, lead_of, lead_plain, lines_or_nobody, mended_front, mended_second, mending_words, node_of, sixty_seven};
+ghost use Rattle.job_rehearse.specs.TableLoads.{AddsOwn, AsksOf, AsksTable, CanBeMended, DoorsOf, FitsStaging, LetsSixtySeven, Mends, PrintsBoth, PrintsDoors, PrintsLoaders, PrintsLoads, PrintsOf, PrintsPolicy, PrintsClosed, is_feed, lead_of, lead_plain, lines_or_nobody, mended_front, mended_second, mending_words, rehearsed_node_of, sixty_seven};
 
-use crate::askers::{Asker, table_askers};
-use crate::loaders::Loader;
+use crate::askers::{LoadInitiator, table_askers};
+use crate::loaders::LoadSender;
 use crate::open_ports::{LoadedNode, loaders};
 use crate::passing::{Passing, is_kind, loader_passing};
 use crate::policies::bytes_of;
@@ -37,12 +37,12 @@ pub struct TableLoads {
     /// The bytes of its image, at most as many as the staging has.
     pub image: Vec<u8>,
     /// Whose loads it is asked about.
-    pub askers: Vec<Asker>,
+    pub askers: Vec<LoadInitiator>,
 }
 
 /// The node of this many ports.
-fn node_of(ports: u8) -> LoadedNode
-    ensures node { result ≡ node_of ports }
+fn rehearsed_node_of(ports: u8) -> LoadedNode
+    ensures node { result ≡ rehearsed_node_of ports }
     ensures ports { result.ports ≡ ports }
 {
     LoadedNode {
@@ -97,10 +97,10 @@ fn lines_of(
     requires ports { ports ≤ 32 }
     requires short { length image.now ≤ STAGING_SIZE }
     ensures { IfOk result (λ lines.
-        TellsLoads ports asked.now image.now lead.now (string_bytes lines)) }
+        PrintsLoads ports asked.now image.now lead.now (string_bytes lines)) }
 {
     let askers = asked.askers.as_slice();
-    loaders(alloc, &asked.judge, image, node_of(ports), lead, askers)
+    loaders(alloc, &asked.judge, image, rehearsed_node_of(ports), lead, askers)
 }
 
 /// Adds lines, or that nobody loads if there are none.
@@ -165,7 +165,7 @@ fn plain_lines(alloc: Global, plain: &str) -> Result<String, AllocError>
 }
 
 /// The lines of both, by those of the smallest image and those of the table's own with the same beginning.
-#[tactic(auto, using(crate::proofs::Telling::tells_same, crate::proofs::Telling::tells_other))]
+#[tactic(auto, using(crate::proofs::Reporting::reports_same, crate::proofs::Reporting::reports_other))]
 fn both(
     alloc: Global,
     asked: &TableLoads,
@@ -175,7 +175,7 @@ fn both(
 ) -> Result<String, AllocError>
     requires ports { ports ≤ 32 }
     requires short { length asked.now.image.items ≤ STAGING_SIZE }
-    ensures { IfOk result (λ text. TellsOf ports asked.now plain.now own.now (string_bytes text)) }
+    ensures { IfOk result (λ text. PrintsOf ports asked.now plain.now own.now (string_bytes text)) }
 {
     let mut text = plain_lines(alloc, plain)?;
     if are_same(own, plain) {
@@ -186,10 +186,10 @@ fn both(
 }
 
 /// The lines of both images.
-fn told_both(alloc: Global, asked: &TableLoads, ports: u8) -> Result<String, AllocError>
+fn lines_of_both(alloc: Global, asked: &TableLoads, ports: u8) -> Result<String, AllocError>
     requires ports { ports ≤ 32 }
     requires short { length asked.now.image.items ≤ STAGING_SIZE }
-    ensures { IfOk result (λ text. TellsBoth ports asked.now (string_bytes text)) }
+    ensures { IfOk result (λ text. PrintsBoth ports asked.now (string_bytes text)) }
 {
     let plain = lines_of(alloc, asked, &SMALLEST, ports, LEAD)?;
     let own = lines_of(alloc, asked, asked.image.as_slice(), ports, LEAD)?;
@@ -203,7 +203,7 @@ fn told_both(alloc: Global, asked: &TableLoads, ports: u8) -> Result<String, All
 /// # Errors
 ///
 /// An error if memory is refused.
-pub fn told_loaders(
+pub fn loader_lines(
     alloc: Global,
     table: &str,
     sizes: &MapSizes,
@@ -211,10 +211,10 @@ pub fn told_loaders(
 ) -> Result<String, AllocError>
     requires { ports ≤ 32 }
     ensures { IfOk result (λ text.
-        TellsLoaders sizes.now table.now ports (string_bytes text)) }
+        PrintsLoaders sizes.now table.now ports (string_bytes text)) }
 {
     match asked_of(alloc, table, sizes)? {
-        Some(asked) => told_both(alloc, &asked, ports),
+        Some(asked) => lines_of_both(alloc, &asked, ports),
         None => Ok(String::new(alloc)),
     }
 }
@@ -224,7 +224,7 @@ fn lets_pass(alloc: Global, asked: &TableLoads, image: &[u8]) -> Result<Passing,
     requires { length image.now ≤ STAGING_SIZE }
     ensures { IfOk result (IsPassing asked.now.judge sixty_seven image.now) }
 {
-    let loader = Loader {
+    let loader = LoadSender {
         port: 0,
         initiator: 0x67,
         key: 0,
@@ -322,8 +322,8 @@ fn can_be_mended(alloc: Global, table: &str, sizes: &MapSizes) -> Result<bool, A
 }
 
 /// What is said of a table that lets nobody load.
-fn told_shut(alloc: Global, table: &str, sizes: &MapSizes) -> Result<String, AllocError>
-    ensures { IfOk result (λ text. TellsShut sizes.now table.now (string_bytes text)) }
+fn closed_lines(alloc: Global, table: &str, sizes: &MapSizes) -> Result<String, AllocError>
+    ensures { IfOk result (λ text. PrintsClosed sizes.now table.now (string_bytes text)) }
 {
     let is = can_be_mended(alloc, table, sizes)?;
     let mut text = String::from_str(alloc, "    in slot 3 this table lets nobody load another\n")?;
@@ -333,7 +333,7 @@ fn told_shut(alloc: Global, table: &str, sizes: &MapSizes) -> Result<String, All
 }
 
 /// What `policy` says of a table by the lines of both images.
-#[tactic(auto, using(crate::proofs::Telling::doors_shut, crate::proofs::Telling::doors_own, crate::proofs::Telling::doors_plain, crate::proofs::Telling::doors_open))]
+#[tactic(auto, using(crate::proofs::Reporting::doors_closed, crate::proofs::Reporting::doors_own, crate::proofs::Reporting::doors_plain, crate::proofs::Reporting::doors_open))]
 fn doors(
     alloc: Global,
     table: &str,
@@ -346,11 +346,11 @@ fn doors(
     requires ports { ports ≤ 32 }
     requires short { length asked.now.image.items ≤ STAGING_SIZE }
     ensures { IfOk result (λ text.
-        TellsDoors sizes.now table.now ports asked.now plain.now own.now (string_bytes text)) }
+        PrintsDoors sizes.now table.now ports asked.now plain.now own.now (string_bytes text)) }
 {
     if plain.is_empty() {
         if own.is_empty() {
-            return Ok(told_shut(alloc, table, sizes)?);
+            return Ok(closed_lines(alloc, table, sizes)?);
         }
         return Ok(both(alloc, asked, ports, plain, own)?);
     }
@@ -361,7 +361,7 @@ fn doors(
 }
 
 /// What `policy` says of what is asked of a table.
-fn told_doors(
+fn door_lines(
     alloc: Global,
     table: &str,
     sizes: &MapSizes,
@@ -387,13 +387,13 @@ fn told_doors(
 
 /// What is said of a table that lets nobody load another in slot 3 of a node with these maps and ports. It has a line
 /// that mends the table and was tried, or says that none fits. If nobody loads one of the two images that
-/// [`told_loaders`] asks for, it is what that says. It is empty if somebody loads both, and if the text writes no table
+/// [`loader_lines`] asks for, it is what that says. It is empty if somebody loads both, and if the text writes no table
 /// without a fault for these maps.
 ///
 /// # Errors
 ///
 /// An error if memory is refused.
-pub fn told_policy(
+pub fn policy_lines(
     alloc: Global,
     table: &str,
     sizes: &MapSizes,
@@ -401,10 +401,10 @@ pub fn told_policy(
 ) -> Result<String, AllocError>
     requires { ports ≤ 32 }
     ensures { IfOk result (λ text.
-        TellsPolicy sizes.now table.now ports (string_bytes text)) }
+        PrintsPolicy sizes.now table.now ports (string_bytes text)) }
 {
     match asked_of(alloc, table, sizes)? {
-        Some(asked) => told_doors(alloc, table, sizes, ports, &asked),
+        Some(asked) => door_lines(alloc, table, sizes, ports, &asked),
         None => Ok(String::new(alloc)),
     }
 }

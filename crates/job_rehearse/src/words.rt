@@ -2,9 +2,9 @@
 
 ghost use Rattle.std.specs.Prelude.{◌≡◌, OnOk};
 ghost use Rattle.job_parts.specs.Printed.{Prints};
-ghost use Rattle.job_rehearse.specs.Words.{is_success, load_result_in, outcome_text, result_text, result_words, status_in, status_words, step_line, step_words};
+ghost use Rattle.job_rehearse.specs.Words.{is_step_success, load_result_in, outcome_text, result_text, result_words, status_in, status_words, step_line, step_words};
 
-use crate::steps::Step;
+use crate::steps::LoadStep;
 use node_parts::{Served, Stop};
 use rmap::{LOAD_RESULT_SIZE, LoadResult, Status};
 use std::io::{self, Write};
@@ -16,13 +16,13 @@ const REPLY_HEADER: usize = 12;
 const RESULT_REPLY: usize = REPLY_HEADER + LOAD_RESULT_SIZE as usize + 1;
 
 /// What a packet of a load is.
-fn step_words(step: Step) -> &'static str
+fn step_words(step: LoadStep) -> &'static str
     ensures { result.now ≡ step_words step }
 {
     match step {
-        Step::Part => "write of the image",
-        Step::Control => "load",
-        Step::Result => "read of the load result",
+        LoadStep::Part => "write of the image",
+        LoadStep::Control => "load",
+        LoadStep::Result => "read of the load result",
     }
 }
 
@@ -58,8 +58,8 @@ fn status_in(served: Served) -> Option<Status>
 }
 
 /// Whether a packet ended with status 0.
-fn is_success(status: Option<Status>) -> bool
-    ensures { result ≡ is_success status }
+fn is_step_success(status: Option<Status>) -> bool
+    ensures { result ≡ is_step_success status }
 {
     match status {
         Some(status) => status.code() == 0,
@@ -69,9 +69,9 @@ fn is_success(status: Option<Status>) -> bool
 
 /// Whether a packet was answered with status 0.
 pub fn succeeds(served: Served) -> bool
-    ensures { result ≡ is_success (status_in served) }
+    ensures { result ≡ is_step_success (status_in served) }
 {
-    is_success(status_in(served))
+    is_step_success(status_in(served))
 }
 
 /// Prints how a packet ended.
@@ -127,7 +127,7 @@ fn print_result<W: Write>(out: &mut W, reply: &[u8]) -> io::Result<()>
 /// # Errors
 ///
 /// The error of `out`, if it does not take all of the text.
-pub fn print_step<W: Write>(out: &mut W, step: Step, served: Served, reply: &[u8]) -> io::Result<()>
+pub fn print_step<W: Write>(out: &mut W, step: LoadStep, served: Served, reply: &[u8]) -> io::Result<()>
     ensures { OnOk result (Prints W.contents out.old out.new (step_line step served reply.now)) }
 {
     let words = step_words(step);

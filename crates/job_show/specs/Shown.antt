@@ -4,9 +4,9 @@ use Rattle.std.specs.Io.KnownBytes.{Appends}
 use Rattle.std.specs.Str.{IsUtf8}
 use Rattle.spw.specs.Line.{lines_of, words_of}
 use Rattle.spw.specs.declared.faults.LineFault.{LineFault}
-use Rattle.job_parts.specs.Files.{Reads}
+use Rattle.job_parts.specs.Files.{ReadsFile}
 use Rattle.job_parts.specs.Reading.{TextUnread}
-use Rattle.job_parts.specs.Turns.{AreTaken, SeesEnd, StopsIn}
+use Rattle.job_parts.specs.Turns.{AreTaken, SeesEnd, StopsInLines}
 use Rattle.job_parts.specs.declared.bad_lines.BadLine.TheVariants.{Line}
 use Rattle.job_parts.specs.declared.faults.Fault.{Fault}
 use Rattle.job_parts.specs.declared.stops.LineEnd.TheVariants.{Bad}
@@ -24,7 +24,7 @@ abbrev pub IsUnshown : List ℕ → SeesEnd Showing
 IsUnshown line before after old new end =
     (fault : LineFault) × (end ≡ Bad (Line fault)) × IsLineFault line (words_of line) fault × (new ≡ old)
 
-module _ {S : Type 0} (reads : Reads S) where
+module _ {S : Type 0} (reads : ReadsFile S) where
   -- the file was read and is UTF-8, and a line was printed of each of its lines in turn
   pub record ShowsFile (before : S) (name : List ℕ) (after : S) (old new : Option (List ℕ)) : Type 0 where
     pub text : List ℕ
@@ -42,7 +42,7 @@ module _ {S : Type 0} (reads : Reads S) where
       pub utf8 : IsUtf8 text
       pub first : Showing
       pub last : Showing
-      pub stop : StopsIn ShowsLine IsUnshown (lines_of text) first last old new fault
+      pub stop : StopsInLines ShowsLine IsUnshown (lines_of text) first last old new fault
 
   -- the file cannot be read or is not UTF-8, and nothing was printed; or a line is bad, after some that were shown
   abbrev pub IsNotShown : (before : S) (name : List ℕ) (after : S) → (old new : Option (List ℕ)) → Fault → Type 0

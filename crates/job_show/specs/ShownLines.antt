@@ -13,10 +13,10 @@ abbrev pub BeginsWith : (word : List ℕ) → List (List ℕ) → Type 0
 BeginsWith word words = (rest : List (List ℕ)) × (words ≡ word ∷ rest)
 
 -- the first word is `journal` or `entry`, which are no ports
-abbrev pub IsEntry : List (List ℕ) → Type 0
-IsEntry words = BeginsWith (codes "journal") words ⊎ BeginsWith (codes "entry") words
+abbrev pub IsEntryWord : List (List ℕ) → Type 0
+IsEntryWord words = BeginsWith (codes "journal") words ⊎ BeginsWith (codes "entry") words
 
 -- a line of these words is not shown: memory was refused, or it has that fault of a packet line. Or it is an entry of a
 -- journal, of whose fault nothing is said. So a packet line is refused only if memory was refused
 abbrev pub IsLineFault : (line : List ℕ) (words : List (List ℕ)) → LineFault → Type 0
-IsLineFault line words fault = (fault ≡ Memory) ⊎ (HasFault marker_word line fault ⊎ IsEntry words)
+IsLineFault line words fault = (fault ≡ Memory) ⊎ (HasFault marker_word line fault ⊎ IsEntryWord words)

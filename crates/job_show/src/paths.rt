@@ -1,12 +1,12 @@
 //! The bytes of a path that a router takes away.
 
 use rmap::PROTOCOL;
-use spw::behind_path;
+use spw::without_path;
 use std::alloc::AllocError;
 
 /// The bytes of a path that come before a packet of this protocol, as it leaves its sender: no bytes, if none do.
 pub fn path_in_front(bytes: &[u8]) -> &[u8] {
-    let (path, packet) = bytes.split_at(bytes.len() - behind_path(bytes).len());
+    let (path, packet) = bytes.split_at(bytes.len() - without_path(bytes).len());
     match packet {
         [_, protocol, ..] if *protocol == PROTOCOL => path,
         _ => &[],

@@ -12,13 +12,13 @@ ghost use Rattle.job_parts.specs.declared.inputs.Content.TheVariants.{Lines};
 
 use crate::shown_lines::shown_line;
 use clap::{ArgMatches, Command};
-use job_parts::arguments::{file, flag, is_set, name_of};
+use job_parts::arguments::{file, flag, is_flag_set, name_of};
 use job_parts::bad_lines::BadLine;
 use job_parts::inputs::{Content, Inputs};
 use job_parts::printing::print_text;
 use job_parts::programs::text_in;
-use job_parts::status::Status;
-use job_parts::stops::{Halt, LineHalt};
+use job_parts::status::ExitStatus;
+use job_parts::stops::{JobStop, LineStop};
 use job_parts::storage::Files;
 use job_parts::turns::{TakesLines, take_lines};
 use job_parts::usage::UsageFault;
@@ -73,7 +73,7 @@ pub fn show_job(alloc: Global, found: &ArgMatches) -> Result<ShowWords, UsageFau
     ensures err { IfErr result (Lacks (codes "lines") (rows_of (found_of found.now))) }
 {
     let lines = name_of(alloc, found, "lines")?;
-    let raw = is_set(found, "raw");
+    let raw = is_flag_set(found, "raw");
     Ok(ShowWords { lines, raw })
 }
 
@@ -88,10 +88,10 @@ impl TakesLines for Showing {
 
     ghost stops = { IsUnshown };
 
-    fn take<W: Write>(&mut self, alloc: Global, line: &str, out: &mut W) -> Result<(), LineHalt> {
+    fn take<W: Write>(&mut self, alloc: Global, line: &str, out: &mut W) -> Result<(), LineStop> {
         match shown_line(alloc, line) {
             Ok(text) => Ok(print_text(out, text.as_str())?),
-            Err(fault) => Err(LineHalt::from(BadLine::from(fault))),
+            Err(fault) => Err(LineStop::from(BadLine::from(fault))),
         }
     }
 }
@@ -108,7 +108,7 @@ pub fn show_file<'a, F: Files, W: Write>(
     lines: &'a str,
     files: &mut F,
     out: &mut W,
-) -> Result<Status, Halt<'a>>
+) -> Result<ExitStatus, JobStop<'a>>
     ensures done { IfOk result (IsDoneWith (ShowsFile F.reads files.old lines.now files.new
         (W.contents out.old) (W.contents out.new))) }
     ensures stops { IfErr result (StopsBy (IsNotShown F.reads files.old lines.now files.new
@@ -116,5 +116,5 @@ pub fn show_file<'a, F: Files, W: Write>(
 {
     let text = text_in(alloc, files, lines)?;
     take_lines(alloc, &mut Showing, text.as_str(), out)?;
-    Ok(Status::Done)
+    Ok(ExitStatus::Done)
 }

@@ -9,11 +9,11 @@ use crate::other_lines::{add_begin, add_count, add_other, decimal, is_time, reas
 use crate::paths::{add_path, path_in_front};
 use bpf::ImageFault;
 use hex::FromHex;
-use initiator::{NoReply, Reply, Seen};
+use initiator::{NoReply, Reply, PacketForm};
 use job_parts::bad_lines::BadLine;
 use node_parts::LoadRefusal;
 use rmap::{
-    BodyFault, CONTROL_SIZE, Command, ControlData, Discard, Flaw, HeaderFault, Instruction, Kind,
+    BodyFault, CONTROL_SIZE, Command, ControlData, Discard, DiscardFault, HeaderFault, Instruction, Kind,
     LoadResult, MAX_DATA, PROTOCOL, Place, Status, VERIFY_BUFFER, Windows, header_check,
 };
 use spw::{End, LineFault, Packet, read_line, read_port, words_of};
@@ -320,16 +320,16 @@ fn add_protocol(text: &mut String, found: u8, bytes: &[u8]) -> Result<(), AllocE
 fn add_discard(
     text: &mut String,
     reason: Discard,
-    flaw: Flaw,
+    discard_fault: DiscardFault,
     bytes: &[u8],
 ) -> Result<(), AllocError> {
     let code = reason.code();
     write!(text, "discard {code}")?;
-    match flaw {
-        Flaw::TooShort => text.push_str(" too few bytes"),
-        Flaw::OtherProtocol { found } => add_protocol(text, found, bytes),
-        Flaw::IsReply => text.push_str(" a reply"),
-        Flaw::WrongHeaderCrc { found, right } => write!(
+    match discard_fault {
+        DiscardFault::TooShort => text.push_str(" too few bytes"),
+        DiscardFault::OtherProtocol { found } => add_protocol(text, found, bytes),
+        DiscardFault::IsReply => text.push_str(" a reply"),
+        DiscardFault::WrongHeaderCrc { found, right } => write!(
             text,
             " the header CRC is {found:02X} and should be {right:02X}"
         ),
@@ -338,11 +338,11 @@ fn add_discard(
 
 /// Adds a packet.
 fn add_packet(text: &mut String, alloc: Global, packet: &Packet) -> Result<(), AllocError> {
-    match Seen::of(packet) {
-        Seen::Command { command, fault } => add_command(text, alloc, &command, fault),
-        Seen::Reply { path, reply } => add_reply(text, alloc, &reply, path, packet.end()),
-        Seen::NoReply { instruction, why } => add_no_reply(text, instruction, why),
-        Seen::Discarded { reason, flaw } => add_discard(text, reason, flaw, packet.bytes()),
+    match PacketForm::of(packet) {
+        PacketForm::Command { command, fault } => add_command(text, alloc, &command, fault),
+        PacketForm::Reply { path, reply } => add_reply(text, alloc, &reply, path, packet.end()),
+        PacketForm::NoReply { instruction, why } => add_no_reply(text, instruction, why),
+        PacketForm::Discarded { reason, discard_fault } => add_discard(text, reason, discard_fault, packet.bytes()),
     }
 }
 
@@ -433,7 +433,7 @@ fn add_damaged(text: &mut String, bank: &str) -> Result<bool, AllocError> {
 
 /// Adds in words what a line of these words is, except its packet, if the line is not only a packet. It is what `judge`
 /// prints of a packet without a reply, what `live` prints, or the last line of `serve`. Reports whether it is.
-fn add_told(text: &mut String, words: &[&str]) -> Result<bool, AllocError> {
+fn add_reported(text: &mut String, words: &[&str]) -> Result<bool, AllocError> {
     match words {
         ["journal", count, "entries"] => add_count(text, count, "entries of the journal:"),
         ["entry", bank, "damaged"] => add_damaged(text, bank),
@@ -606,7 +606,7 @@ fn add_filed(text: &mut String, alloc: Global, words: &[&str]) -> Result<bool, L
         return Ok(false);
     }
     let mut shown = String::new(alloc);
-    if !add_told(&mut shown, rest)? && !add_begin(&mut shown, rest)? {
+    if !add_reported(&mut shown, rest)? && !add_begin(&mut shown, rest)? {
         if !add_whole_entry(&mut shown, alloc, rest)? {
             return Ok(false);
         }
@@ -680,12 +680,12 @@ fn add_beside(text: &mut String, alloc: Global, words: &[&str]) -> Result<bool, 
 /// A line that is none of these has the fault of a packet line, and an entry that of its packet. `Memory` if memory was
 /// refused. A packet line has no other error.
 pub fn shown_line(alloc: Global, line: &str) -> Result<String, LineFault>
-    ensures told { IfOk result (λ text. EndsLine (string_bytes text)) }
+    ensures reported { IfOk result (λ text. EndsLine (string_bytes text)) }
     ensures fault { IfErr result (IsLineFault line.now (words_in line.now)) }
 {
     let words = words_of(alloc, line)?;
     let mut text = String::new(alloc);
-    if !add_told(&mut text, words.as_slice())? && !add_beside(&mut text, alloc, words.as_slice())? {
+    if !add_reported(&mut text, words.as_slice())? && !add_beside(&mut text, alloc, words.as_slice())? {
         add_packet_line(&mut text, alloc, line, words.as_slice())?;
     }
     text.push_str("\n")?;

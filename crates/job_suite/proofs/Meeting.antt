@@ -9,13 +9,13 @@ use Rattle.rmap.specs.declared.discard.Discard.{Discard}
 use Rattle.rmap.specs.declared.places.Place.{Place}
 use Rattle.rmap.specs.declared.status.Status.{Status}
 use Rattle.spw.specs.Cargo.{Cargo}
-use Rattle.job_suite.specs.Checks.{GoesOn, IsStoppedBy, Meets, check_after, check_of_discard, check_of_fault, first_check}
-use Rattle.job_suite.specs.Comings.{Fits, FitsJudged, FitsStopped}
-use Rattle.job_suite.specs.Judges.{HasAnswered, judge_of}
-use Rattle.job_suite.specs.Trials.{HasCome, IsMet, IsVerdict}
+use Rattle.job_suite.specs.Checks.{PassesHeader, IsStoppedBy, Meets, check_after, check_of_discard, check_of_fault, first_check}
+use Rattle.job_suite.specs.Comings.{FitsWanted, FitsJudged, FitsStopped}
+use Rattle.job_suite.specs.Judges.{HasJudgedAtPortZero, judge_of}
+use Rattle.job_suite.specs.Trials.{HasCome, IsMet, IsTrialVerdict}
 use Rattle.job_suite.specs.declared.checks.Check.{Check}
-use Rattle.job_suite.specs.declared.comings.Came.{Came}
-use Rattle.job_suite.specs.declared.comings.Came.TheVariants as comings
+use Rattle.job_suite.specs.declared.comings.PacketOutcome.{PacketOutcome}
+use Rattle.job_suite.specs.declared.comings.PacketOutcome.TheVariants as comings
 use Rattle.job_suite.specs.declared.rows.Wanted.{Wanted}
 use Rattle.job_suite.specs.declared.rows.Wanted.TheVariants.{Stopped, Brought, Judged, Spoilt, Whole}
 use Rattle.job_suite.specs.declared.trials.Bench.{Bench}
@@ -34,16 +34,16 @@ stopped w p c check kept same is =
 
 -- a command whose bytes have a place goes on
 pub going_on : (w : WindowsValue) (p : Cargo) (c : CommandValue) (place : Place) → discard_of p.bytes ≡ None → c ≡ command_of p
-    → HasPlace c w place → GoesOn w p place
+    → HasPlace c w place → PassesHeader w p place
 going_on w p c place kept same has = (kept, subst (λ (k : CommandValue). HasPlace k w place) same has)
 
 -- the verdict on a packet that goes on
-pub verdict_of : (b : Bench) (p : Cargo) (c : CommandValue) (place : Place) (verdict : ℕ) → GoesOn b.windows p place → c ≡ command_of p
-    → HasAnswered (judge_of b.judges (slot_of (command_kind c) place)) c verdict → IsVerdict b p verdict
+pub verdict_of : (b : Bench) (p : Cargo) (c : CommandValue) (place : Place) (verdict : ℕ) → PassesHeader b.windows p place → c ≡ command_of p
+    → HasJudgedAtPortZero (judge_of b.judges (slot_of (command_kind c) place)) c verdict → IsTrialVerdict b p verdict
 verdict_of b p c place verdict goes same answered = record {
   place = place;
   goes_on = goes;
-  answered = subst (λ (k : CommandValue). HasAnswered (judge_of b.judges (slot_of (command_kind k) place)) k verdict) same answered;
+  answered = subst (λ (k : CommandValue). HasJudgedAtPortZero (judge_of b.judges (slot_of (command_kind k) place)) k verdict) same answered;
 }
 
 -- a packet that comes to what is wanted meets it
@@ -55,14 +55,14 @@ stopped_meets b p check (Judged number) meets fits = absurd fits
 stopped_meets b p check (Spoilt status) meets fits = absurd fits
 stopped_meets b p check Whole meets fits = absurd fits
 
-judged_meets : (b : Bench) (p : Cargo) (verdict : ℕ) (fault : Option Status) (wanted : Wanted) → IsVerdict b p verdict
+judged_meets : (b : Bench) (p : Cargo) (verdict : ℕ) (fault : Option Status) (wanted : Wanted) → IsTrialVerdict b p verdict
     → body_line (command_of p) ≡ fault → FitsJudged verdict fault wanted → IsMet b p wanted
 judged_meets b p verdict fault (Stopped line) is body fits = absurd fits
 judged_meets b p verdict fault Brought is body fits = record { verdict = verdict; is = is }
-judged_meets b p verdict fault (Judged number) is body fits = subst (λ (v : ℕ). IsVerdict b p v) fits is
-judged_meets b p verdict fault (Spoilt status) is body fits = (subst (λ (v : ℕ). IsVerdict b p v) fits.0 is, body ∙ fits.1)
-judged_meets b p verdict fault Whole is body fits = (subst (λ (v : ℕ). IsVerdict b p v) fits.0 is, body ∙ fits.1)
+judged_meets b p verdict fault (Judged number) is body fits = subst (λ (v : ℕ). IsTrialVerdict b p v) fits is
+judged_meets b p verdict fault (Spoilt status) is body fits = (subst (λ (v : ℕ). IsTrialVerdict b p v) fits.0 is, body ∙ fits.1)
+judged_meets b p verdict fault Whole is body fits = (subst (λ (v : ℕ). IsTrialVerdict b p v) fits.0 is, body ∙ fits.1)
 
-pub meets_wanted : (b : Bench) (p : Cargo) (came : Came) (wanted : Wanted) → HasCome b p came → Fits came wanted → IsMet b p wanted
+pub meets_wanted : (b : Bench) (p : Cargo) (received : PacketOutcome) (wanted : Wanted) → HasCome b p received → FitsWanted received wanted → IsMet b p wanted
 meets_wanted b p (comings.Stopped check) wanted come fits = stopped_meets b p check wanted come fits
 meets_wanted b p (comings.Judged verdict fault) wanted come fits = judged_meets b p verdict fault wanted come.0 come.1 fits

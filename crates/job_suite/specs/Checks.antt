@@ -46,5 +46,5 @@ abbrev pub Meets : WindowsValue → Cargo → Check → Type 0
 Meets w p check = first_check w p ≡ Some check
 
 -- the packet is a command, no line before the program holds, and its bytes have that place
-abbrev pub GoesOn : WindowsValue → Cargo → Place → Type 0
-GoesOn w p place = (discard_of p.bytes ≡ None) × HasPlace (command_of p) w place
+abbrev pub PassesHeader : WindowsValue → Cargo → Place → Type 0
+PassesHeader w p place = (discard_of p.bytes ≡ None) × HasPlace (command_of p) w place

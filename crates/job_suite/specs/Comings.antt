@@ -2,8 +2,8 @@
 use Rattle.std.specs.Prelude.{◌≡◌, ℕ, Option, Some, None}
 use Rattle.rmap.specs.declared.status.Status.{Status}
 use Rattle.job_suite.specs.declared.checks.Check.{Check}
-use Rattle.job_suite.specs.declared.comings.Came.{Came}
-use Rattle.job_suite.specs.declared.comings.Came.TheVariants as comings
+use Rattle.job_suite.specs.declared.comings.PacketOutcome.{PacketOutcome}
+use Rattle.job_suite.specs.declared.comings.PacketOutcome.TheVariants as comings
 use Rattle.job_suite.specs.declared.rows.Wanted.{Wanted}
 use Rattle.job_suite.specs.declared.rows.Wanted.TheVariants.{Stopped, Brought, Judged, Spoilt, Whole}
 
@@ -25,6 +25,6 @@ FitsJudged verdict fault (Spoilt status) = (verdict ≡ 0) × (fault ≡ Some st
 FitsJudged verdict fault Whole = (verdict ≡ 0) × (fault ≡ None)
 
 -- what a packet comes to is what is wanted
-abbrev pub Fits : Came → Wanted → Type 0
-Fits (comings.Stopped check) wanted = FitsStopped check wanted
-Fits (comings.Judged verdict fault) wanted = FitsJudged verdict fault wanted
+abbrev pub FitsWanted : PacketOutcome → Wanted → Type 0
+FitsWanted (comings.Stopped check) wanted = FitsStopped check wanted
+FitsWanted (comings.Judged verdict fault) wanted = FitsJudged verdict fault wanted

@@ -23,11 +23,11 @@ judge_of judges slot = judge_among judges.first judges.own.publishes slot
 
 -- the program had a run on the header of the command, at port 0, that ends with the verdict. The words of cells that
 -- nobody asked answered its calls in order
-pub record HasAnswered (judge : AcceptedValue) (c : CommandValue) (verdict : ℕ) : Type 0 where
+pub record HasJudgedAtPortZero (judge : AcceptedValue) (c : CommandValue) (verdict : ℕ) : Type 0 where
   pub calls : List Call
-  pub behind : List (List ℕ)
+  pub following : List (List ℕ)
   pub run : IsVerdictOn judge 0 calls c verdict
-  pub cells : AreCallsOn judge.sizes (zero_words judge.sizes) calls behind
+  pub cells : AreCallsOn judge.sizes (zero_words judge.sizes) calls following
 
 -- the programs are those of the node: that one judges at first, and then each that is published
 pub record AreJudges (own : OwnNodeValue) (first : AcceptedValue) (judges : Judges) : Type 0 where

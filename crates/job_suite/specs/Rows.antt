@@ -3,13 +3,13 @@ use Rattle.std.specs.Prelude.{ℕ, ◌==◌, Bool, true, false, ◌||◌, if◌t
 use Rattle.std.specs.List.{starts_with}
 use Rattle.rmap.specs.declared.status.Status.TheVariants.{ErrorEndOfPacket, EarlyEndOfPacket, TooMuchData, InvalidDataCrc}
 use Rattle.job_suite.specs.declared.checks.Check.TheVariants as checks
-use Rattle.job_suite.specs.declared.rows.Row.{Row}
-use Rattle.job_suite.specs.declared.rows.Row.TheVariants as rows
+use Rattle.job_suite.specs.declared.rows.SuiteRow.{SuiteRow}
+use Rattle.job_suite.specs.declared.rows.SuiteRow.TheVariants as rows
 use Rattle.job_suite.specs.declared.rows.Wanted.{Wanted}
 use Rattle.job_suite.specs.declared.rows.Wanted.TheVariants as wanted
 
 -- what a packet of the row must meet: the first line of the order of checks that holds, or what comes of its program and body
-abbrev pub wanted_of : Row → Wanted
+abbrev pub wanted_of : SuiteRow → Wanted
 wanted_of rows.Short = wanted.Stopped checks.Short
 wanted_of rows.ShortBeforeProtocol = wanted.Stopped checks.Short
 wanted_of rows.Protocol = wanted.Stopped checks.Protocol
@@ -52,50 +52,50 @@ wanted_of rows.BootWindow = wanted.Whole
 wanted_of rows.Load = wanted.Whole
 
 -- the name of the row, without the verdict of a row of the program
-abbrev pub word_of : Row → List ℕ
-word_of rows.Short = codes "short"
-word_of rows.ShortBeforeProtocol = codes "short+protocol"
-word_of rows.Protocol = codes "protocol"
-word_of rows.ProtocolBeforeReplyType = codes "protocol+reply-type"
-word_of rows.ProtocolBeforeShort = codes "protocol+short"
-word_of rows.ReplyType = codes "reply-type"
-word_of rows.ReplyTypeBeforeShort = codes "reply-type+short"
-word_of rows.ReplyTypeBeforeHeaderCrc = codes "reply-type+header-crc"
-word_of rows.HeaderCrc = codes "header-crc"
-word_of rows.HeaderCrcBeforeUnusedCode = codes "header-crc+unused-code"
-word_of rows.ReservedType = codes "reserved-type"
-word_of rows.UnusedCode = codes "unused-code"
-word_of rows.UnusedCodeBeforeTargetAddress = codes "unused-code+target-address"
-word_of rows.TargetAddress = codes "target-address"
-word_of rows.TargetAddressBeforeRmwLength = codes "target-address+rmw-length"
-word_of rows.RmwLength = codes "rmw-length"
-word_of rows.RmwLengthBeforeVerifyBuffer = codes "rmw-length+verify-buffer"
-word_of rows.VerifyBuffer = codes "verify-buffer"
-word_of rows.VerifyBufferBeforeLength = codes "verify-buffer+length"
-word_of rows.Length = codes "length"
-word_of rows.LengthBeforePlace = codes "length+place"
-word_of rows.Place = codes "place"
-word_of (rows.Program verdict) = codes "program"
-word_of (rows.ProgramBeforeEep verdict) = codes "program"
-word_of rows.Key = codes "key"
-word_of rows.Eep = codes "eep"
-word_of rows.EepBeforeEarlyEop = codes "eep+early-eop"
-word_of rows.EarlyEop = codes "early-eop"
-word_of rows.TooMuchData = codes "too-much-data"
-word_of rows.TooMuchDataBeforeDataCrc = codes "too-much-data+data-crc"
-word_of rows.DataCrc = codes "data-crc"
-word_of rows.ReplyAddress = codes "reply-address"
-word_of rows.NoReply = codes "no-reply"
-word_of rows.Read = codes "read"
-word_of rows.Write = codes "write"
-word_of rows.VerifiedWrite = codes "verified-write"
-word_of rows.Rmw = codes "rmw"
-word_of rows.Memory = codes "memory"
-word_of rows.BootWindow = codes "boot-window"
-word_of rows.Load = codes "load"
+abbrev pub row_word_of : SuiteRow → List ℕ
+row_word_of rows.Short = codes "short"
+row_word_of rows.ShortBeforeProtocol = codes "short+protocol"
+row_word_of rows.Protocol = codes "protocol"
+row_word_of rows.ProtocolBeforeReplyType = codes "protocol+reply-type"
+row_word_of rows.ProtocolBeforeShort = codes "protocol+short"
+row_word_of rows.ReplyType = codes "reply-type"
+row_word_of rows.ReplyTypeBeforeShort = codes "reply-type+short"
+row_word_of rows.ReplyTypeBeforeHeaderCrc = codes "reply-type+header-crc"
+row_word_of rows.HeaderCrc = codes "header-crc"
+row_word_of rows.HeaderCrcBeforeUnusedCode = codes "header-crc+unused-code"
+row_word_of rows.ReservedType = codes "reserved-type"
+row_word_of rows.UnusedCode = codes "unused-code"
+row_word_of rows.UnusedCodeBeforeTargetAddress = codes "unused-code+target-address"
+row_word_of rows.TargetAddress = codes "target-address"
+row_word_of rows.TargetAddressBeforeRmwLength = codes "target-address+rmw-length"
+row_word_of rows.RmwLength = codes "rmw-length"
+row_word_of rows.RmwLengthBeforeVerifyBuffer = codes "rmw-length+verify-buffer"
+row_word_of rows.VerifyBuffer = codes "verify-buffer"
+row_word_of rows.VerifyBufferBeforeLength = codes "verify-buffer+length"
+row_word_of rows.Length = codes "length"
+row_word_of rows.LengthBeforePlace = codes "length+place"
+row_word_of rows.Place = codes "place"
+row_word_of (rows.Program verdict) = codes "program"
+row_word_of (rows.ProgramBeforeEep verdict) = codes "program"
+row_word_of rows.Key = codes "key"
+row_word_of rows.Eep = codes "eep"
+row_word_of rows.EepBeforeEarlyEop = codes "eep+early-eop"
+row_word_of rows.EarlyEop = codes "early-eop"
+row_word_of rows.TooMuchData = codes "too-much-data"
+row_word_of rows.TooMuchDataBeforeDataCrc = codes "too-much-data+data-crc"
+row_word_of rows.DataCrc = codes "data-crc"
+row_word_of rows.ReplyAddress = codes "reply-address"
+row_word_of rows.NoReply = codes "no-reply"
+row_word_of rows.Read = codes "read"
+row_word_of rows.Write = codes "write"
+row_word_of rows.VerifiedWrite = codes "verified-write"
+row_word_of rows.Rmw = codes "rmw"
+row_word_of rows.Memory = codes "memory"
+row_word_of rows.BootWindow = codes "boot-window"
+row_word_of rows.Load = codes "load"
 
 -- all rows; all verdicts of a program are one row
-abbrev pub all_rows : List Row
+abbrev pub all_rows : List SuiteRow
 all_rows =
     rows.Short ∷ rows.ShortBeforeProtocol ∷ rows.Protocol ∷ rows.ProtocolBeforeReplyType ∷ rows.ProtocolBeforeShort ∷
     rows.ReplyType ∷ rows.ReplyTypeBeforeShort ∷ rows.ReplyTypeBeforeHeaderCrc ∷ rows.HeaderCrc ∷
@@ -107,9 +107,9 @@ all_rows =
     rows.VerifiedWrite ∷ rows.Rmw ∷ rows.Memory ∷ rows.BootWindow ∷ rows.Load ∷ []
 
 -- the names of some of these rows begin so, without the verdicts of programs
-abbrev pub is_beginning_among : List Row → (word : List ℕ) → Bool
+abbrev pub is_beginning_among : List SuiteRow → (word : List ℕ) → Bool
 is_beginning_among [] word = false
-is_beginning_among (row ∷ more) word = if starts_with nat_eq (word_of row) word then true else is_beginning_among more word
+is_beginning_among (row ∷ more) word = if starts_with nat_eq (row_word_of row) word then true else is_beginning_among more word
 
 -- the names of some rows may begin so; no letters begin none
 abbrev pub is_beginning : (word : List ℕ) → Bool

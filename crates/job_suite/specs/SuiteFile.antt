@@ -7,19 +7,19 @@ use Rattle.node_parts.specs.Nodes.{windows_of}
 use Rattle.job_config.specs.OwnNodes.{OwnNodeValue, plain_node}
 use Rattle.job_config.specs.Reads.{ReadsNoNode, ReadsNode}
 use Rattle.job_parts.specs.Factory.{factory}
-use Rattle.job_parts.specs.Files.{Reads}
+use Rattle.job_parts.specs.Files.{ReadsFile}
 use Rattle.job_parts.specs.declared.faults.Fault.{Fault}
 use Rattle.job_parts.specs.declared.faults.Fault.TheVariants.{NoMemory}
 use Rattle.job_suite.specs.Judges.{AreJudges}
 use Rattle.job_suite.specs.SuiteJob.{name_of_table}
-use Rattle.job_suite.specs.Tables.{AreTableOf, IsNoChart, ReadsAsked, ReadsNotAsked}
-use Rattle.job_suite.specs.Trials.{AreTrials, lines_of}
+use Rattle.job_suite.specs.Tables.{AreTableOf, HasNoChart, ReadsSuiteTable, LacksSuiteTable}
+use Rattle.job_suite.specs.Trials.{AreTrials, trial_lines_of}
 use Rattle.job_suite.specs.declared.trials.Bench.{Bench}
 use Rattle.job_suite.specs.declared.trials.Trial.{Trial}
 use Rattle.job_suite.specs.declared.words.SuiteWords.{SuiteWords}
 
 -- the node of which no file says anything, with one port and no maps, and the factory program
-pub record IsPlain (own : OwnNodeValue) (first : AcceptedValue) : Type 0 where
+pub record IsSuitePlainNode (own : OwnNodeValue) (first : AcceptedValue) : Type 0 where
   pub node : own ≡ plain_node 1 (listed_maps [])
   pub program : first.program ≡ factory
 
@@ -32,28 +32,28 @@ pub record IsBench (words : SuiteWords) (own : OwnNodeValue) (first : AcceptedVa
   pub loads : b.loads ≡ words.loads
 
 -- the text has the packet lines of packets each of which meets its row; or it is that of an index
-pub record IsText (words : SuiteWords) (bench : Bench) (text : List ℕ) : Type 0 where
+pub record IsSuiteText (words : SuiteWords) (bench : Bench) (text : List ℕ) : Type 0 where
   pub trials : List Trial
   pub are_trials : AreTrials bench trials
-  pub lines : words.index ≡ false → text ≡ lines_of trials
+  pub lines : words.index ≡ false → text ≡ trial_lines_of trials
 
-module _ {S : Type 0} (reads : Reads S) where
+module _ {S : Type 0} (reads : ReadsFile S) where
   -- the node is the plain one, or that of the file of this name
-  abbrev pub HoldsNode : Option (List ℕ) → (before : S) → OwnNodeValue → AcceptedValue → (after : S) → Type 0
-  HoldsNode None before own first after = IsPlain own first × (after ≡ before)
-  HoldsNode (Some name) before own first after = ReadsNode reads name before own first after
+  abbrev pub HoldsSuiteNode : Option (List ℕ) → (before : S) → OwnNodeValue → AcceptedValue → (after : S) → Type 0
+  HoldsSuiteNode None before own first after = IsSuitePlainNode own first × (after ≡ before)
+  HoldsSuiteNode (Some name) before own first after = ReadsNode reads name before own first after
 
   -- there is no such node: memory was refused, or the file says none
-  abbrev pub HoldsNoNode : Option (List ℕ) → (before after : S) → Fault → Type 0
-  HoldsNoNode None before after fault = (fault ≡ NoMemory) × (after ≡ before)
-  HoldsNoNode (Some name) before after fault = ReadsNoNode reads name before fault after
+  abbrev pub HoldsNoSuiteNode : Option (List ℕ) → (before after : S) → Fault → Type 0
+  HoldsNoSuiteNode None before after fault = (fault ≡ NoMemory) × (after ≡ before)
+  HoldsNoSuiteNode (Some name) before after fault = ReadsNoNode reads name before fault after
 
   -- the table was read, if one is named, and then the node
-  pub record HoldsAll (words : SuiteWords) (before : S) (table : Option (List ℕ)) (own : OwnNodeValue) (first : AcceptedValue)
+  pub record HoldsTableAndNode (words : SuiteWords) (before : S) (table : Option (List ℕ)) (own : OwnNodeValue) (first : AcceptedValue)
       (bench : Bench) (after : S) : Type 0 where
     pub middle : S
-    pub read : ReadsAsked reads (name_of_table words.table) before table middle
-    pub held : HoldsNode (option_map string_bytes words.node) middle own first after
+    pub read : ReadsSuiteTable reads (name_of_table words.table) before table middle
+    pub held : HoldsSuiteNode (option_map string_bytes words.node) middle own first after
     pub is_bench : IsBench words own first bench
 
   -- the suite of the node was printed
@@ -62,18 +62,18 @@ module _ {S : Type 0} (reads : Reads S) where
     pub first : AcceptedValue
     pub bench : Bench
     pub table : Option (List ℕ)
-    pub held : HoldsAll words before table own first bench after
+    pub held : HoldsTableAndNode words before table own first bench after
     pub of_table : AreTableOf bench.judges bench.judges.own.sizes words.table table
     pub text : List ℕ
-    pub is_text : IsText words bench text
+    pub is_text : IsSuiteText words bench text
     pub printed : Appends old new text
 
   -- the table's file was read, if one is named, and there is no node
   pub record HasNoNode (words : SuiteWords) (before after : S) (fault : Fault) : Type 0 where
     pub table : Option (List ℕ)
     pub middle : S
-    pub read : ReadsAsked reads (name_of_table words.table) before table middle
-    pub none : HoldsNoNode (option_map string_bytes words.node) middle after fault
+    pub read : ReadsSuiteTable reads (name_of_table words.table) before table middle
+    pub none : HoldsNoSuiteNode (option_map string_bytes words.node) middle after fault
 
   -- the node was read, and the table is that of none of its programs
   pub record HasNoTable (words : SuiteWords) (before after : S) (fault : Fault) : Type 0 where
@@ -81,22 +81,22 @@ module _ {S : Type 0} (reads : Reads S) where
     pub first : AcceptedValue
     pub bench : Bench
     pub table : Option (List ℕ)
-    pub held : HoldsAll words before table own first bench after
-    pub none : IsNoChart bench.judges bench.judges.own.sizes words.table table fault
+    pub held : HoldsTableAndNode words before table own first bench after
+    pub none : HasNoChart bench.judges bench.judges.own.sizes words.table table fault
 
   -- both were read, and memory was refused after that
-  pub record IsUntold (words : SuiteWords) (before after : S) (fault : Fault) : Type 0 where
+  pub record IsUnprinted (words : SuiteWords) (before after : S) (fault : Fault) : Type 0 where
     pub own : OwnNodeValue
     pub first : AcceptedValue
     pub table : Option (List ℕ)
     pub middle : S
-    pub read : ReadsAsked reads (name_of_table words.table) before table middle
-    pub held : HoldsNode (option_map string_bytes words.node) middle own first after
+    pub read : ReadsSuiteTable reads (name_of_table words.table) before table middle
+    pub held : HoldsSuiteNode (option_map string_bytes words.node) middle own first after
     pub no_memory : fault ≡ NoMemory
 
   -- there is no suite: the table's file gives no text, there is no node, the table is that of none of its programs, or
   -- memory was refused
   abbrev pub IsNoSuite : SuiteWords → (before after : S) → Fault → Type 0
   IsNoSuite words before after fault =
-      ReadsNotAsked reads (name_of_table words.table) before fault after ⊎ HasNoNode words before after fault
-      ⊎ HasNoTable words before after fault ⊎ IsUntold words before after fault
+      LacksSuiteTable reads (name_of_table words.table) before fault after ⊎ HasNoNode words before after fault
+      ⊎ HasNoTable words before after fault ⊎ IsUnprinted words before after fault

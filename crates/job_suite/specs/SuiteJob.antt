@@ -3,7 +3,7 @@ use Rattle.std.specs.Prelude.{◌≡◌, ◌≢◌, ◌⊎◌, ℕ, true, false,
 use Rattle.std.specs.List.{after_first, before_first}
 use Rattle.clap.specs.Walk.{Row, first_of}
 use Rattle.clap.specs.Simple.{App, new_app, with_rule}
-use Rattle.job_parts.specs.Arguments.{flag_rule, is_set, option_rule}
+use Rattle.job_parts.specs.Arguments.{flag_rule, is_flag_set, option_rule}
 use Rattle.job_parts.specs.Inputs.{InputValue, input}
 use Rattle.job_parts.specs.Options.{IsNumberWithin, WritesSuch, list_parts}
 use Rattle.job_parts.specs.declared.inputs.Content.{Content}
@@ -12,9 +12,9 @@ use Rattle.job_parts.specs.declared.usage.UsageFault.{UsageFault}
 use Rattle.job_parts.specs.declared.usage.UsageFault.TheVariants.{Parse, BadOption, Memory}
 use Rattle.job_packets.specs.HexWords.{Has}
 use Rattle.job_packets.specs.Slots.{WritesSlots}
-use Rattle.job_suite.specs.Ranges.{IsRange, WriteRanges, is_colon}
+use Rattle.job_suite.specs.Ranges.{IsRangeWord, WriteRanges, is_colon}
 use Rattle.job_suite.specs.Rows.{is_beginning}
-use Rattle.job_suite.specs.declared.ranges.Range.{Range}
+use Rattle.job_suite.specs.declared.ranges.MemoryRange.{MemoryRange}
 use Rattle.job_suite.specs.declared.words.SuiteWords.{SuiteWords}
 use Rattle.job_suite.specs.declared.words.TableWord.{TableWord}
 
@@ -53,8 +53,8 @@ read_first None own = own
 read_first (Some name) own = Some (input name Table)
 
 -- what the job reads first, by its words
-abbrev pub first_read : SuiteWords → Option InputValue
-first_read words = read_first (name_of_table words.table) (node_read words)
+abbrev pub suite_first_read : SuiteWords → Option InputValue
+suite_first_read words = read_first (name_of_table words.table) (node_read words)
 
 -- what it reads after that: the node's file, if a table was read
 abbrev pub read_second : (table : Option (List ℕ)) → (node : Option InputValue) → Option InputValue
@@ -62,8 +62,8 @@ read_second None own = None
 read_second (Some name) own = own
 
 -- what the job reads second, by its words
-abbrev pub second_read : SuiteWords → Option InputValue
-second_read words = read_second (name_of_table words.table) (node_read words)
+abbrev pub suite_second_read : SuiteWords → Option InputValue
+suite_second_read words = read_second (name_of_table words.table) (node_read words)
 
 -- the seed is the number that the option's value writes; without the option it is 0
 abbrev pub GivesSeed : Option (List ℕ) → ℕ → Type 0
@@ -121,13 +121,13 @@ IsBadTable None = ⊥
 IsBadTable (Some word) = ¬ IsTableWord word
 
 -- the ranges are those that the option's value writes; without the option there are none
-abbrev pub GivesRanges : Option (List ℕ) → List Range → Type 0
+abbrev pub GivesRanges : Option (List ℕ) → List MemoryRange → Type 0
 GivesRanges None ranges = ranges ≡ []
 GivesRanges (Some text) ranges = WriteRanges (list_parts text) ranges
 
 -- a list of which each part writes a range
 abbrev pub IsRangeList : List ℕ → Type 0
-IsRangeList text = All IsRange (list_parts text)
+IsRangeList text = All IsRangeWord (list_parts text)
 
 -- the option has a value that writes no ranges
 abbrev pub AreBadRanges : Option (List ℕ) → Type 0
@@ -172,8 +172,8 @@ pub record NamesSuite (rows : List Row) (words : SuiteWords) : Type 0 where
   pub without : GivesWithout (first_of (codes "without") rows) (string_bytes words.without)
   pub table : GivesTable (first_of (codes "table") rows) words.table
   pub within : GivesRanges (first_of (codes "within") rows) words.within.items
-  pub loads : words.loads ≡ is_set (codes "loads") rows
-  pub index : words.index ≡ is_set (codes "index") rows
+  pub loads : words.loads ≡ is_flag_set (codes "loads") rows
+  pub index : words.index ≡ is_flag_set (codes "index") rows
 
 -- matches with a seed, beginnings of names, a table or ranges that are none
 abbrev pub SpoilsSuite : List Row → Type 0

@@ -8,13 +8,13 @@ use Rattle.rmap.specs.Windows.{WindowsValue}
 use Rattle.rmap.specs.declared.places.Place.{Place}
 use Rattle.spw.specs.Cargo.{Cargo}
 use Rattle.spw.specs.Written.{packet_line}
-use Rattle.job_suite.specs.Checks.{GoesOn, Meets}
-use Rattle.job_suite.specs.Judges.{HasAnswered, judge_of}
+use Rattle.job_suite.specs.Checks.{PassesHeader, Meets}
+use Rattle.job_suite.specs.Judges.{HasJudgedAtPortZero, judge_of}
 use Rattle.job_suite.specs.Reach.{is_printed}
 use Rattle.job_suite.specs.Rows.{wanted_of}
 use Rattle.job_suite.specs.declared.judges.Judges.{Judges}
-use Rattle.job_suite.specs.declared.comings.Came.{Came}
-use Rattle.job_suite.specs.declared.comings.Came.TheVariants as comings
+use Rattle.job_suite.specs.declared.comings.PacketOutcome.{PacketOutcome}
+use Rattle.job_suite.specs.declared.comings.PacketOutcome.TheVariants as comings
 use Rattle.job_suite.specs.declared.rows.Wanted.{Wanted}
 use Rattle.job_suite.specs.declared.rows.Wanted.TheVariants.{Stopped, Brought, Judged, Spoilt, Whole}
 use Rattle.job_suite.specs.declared.trials.Bench.{Bench}
@@ -22,15 +22,15 @@ use Rattle.job_suite.specs.declared.trials.Trial.{Trial}
 
 -- the packet comes to the program of its slot at the node, which had a run on its header at port 0, on cells that
 -- nobody asked. The run ends with the verdict
-pub record IsVerdict (b : Bench) (p : Cargo) (verdict : ℕ) : Type 0 where
+pub record IsTrialVerdict (b : Bench) (p : Cargo) (verdict : ℕ) : Type 0 where
   pub place : Place
-  pub goes_on : GoesOn b.windows p place
-  pub answered : HasAnswered (judge_of b.judges (slot_of (command_kind (command_of p)) place)) (command_of p) verdict
+  pub goes_on : PassesHeader b.windows p place
+  pub answered : HasJudgedAtPortZero (judge_of b.judges (slot_of (command_kind (command_of p)) place)) (command_of p) verdict
 
 -- the packet comes to the program of its slot
 pub record IsBrought (b : Bench) (p : Cargo) : Type 0 where
   pub verdict : ℕ
-  pub is : IsVerdict b p verdict
+  pub is : IsTrialVerdict b p verdict
 
 -- the packet meets what is wanted: the first line of the order of checks that holds is this one; or it comes to its
 -- program. Or the program gives this verdict; or it lets the packet pass, and the first check of its body that holds
@@ -38,14 +38,14 @@ pub record IsBrought (b : Bench) (p : Cargo) : Type 0 where
 abbrev pub IsMet : Bench → Cargo → Wanted → Type 0
 IsMet b p (Stopped check) = Meets b.windows p check
 IsMet b p Brought = IsBrought b p
-IsMet b p (Judged verdict) = IsVerdict b p verdict
-IsMet b p (Spoilt status) = IsVerdict b p 0 × (body_line (command_of p) ≡ Some status)
-IsMet b p Whole = IsVerdict b p 0 × (body_line (command_of p) ≡ None)
+IsMet b p (Judged verdict) = IsTrialVerdict b p verdict
+IsMet b p (Spoilt status) = IsTrialVerdict b p 0 × (body_line (command_of p) ≡ Some status)
+IsMet b p Whole = IsTrialVerdict b p 0 × (body_line (command_of p) ≡ None)
 
 -- the packet comes to that at the node
-abbrev pub HasCome : Bench → Cargo → Came → Type 0
+abbrev pub HasCome : Bench → Cargo → PacketOutcome → Type 0
 HasCome b p (comings.Stopped check) = Meets b.windows p check
-HasCome b p (comings.Judged verdict fault) = IsVerdict b p verdict × (body_line (command_of p) ≡ fault)
+HasCome b p (comings.Judged verdict fault) = IsTrialVerdict b p verdict × (body_line (command_of p) ≡ fault)
 
 -- the packet meets its row, and changes memory only at places that may be changed, whatever a target makes of it
 pub record IsTrial (b : Bench) (t : Trial) : Type 0 where
@@ -66,5 +66,5 @@ with_lines text [] = text
 with_lines text (t ∷ trials) = with_lines (text ++ trial_line t) trials
 
 -- the packet lines of these packets
-abbrev pub lines_of : List Trial → List ℕ
-lines_of trials = with_lines [] trials
+abbrev pub trial_lines_of : List Trial → List ℕ
+trial_lines_of trials = with_lines [] trials

@@ -2,7 +2,7 @@
 
 use crate::headers::plain_length;
 use crate::maker::{Area, Maker, READ, RMW, WRITE, WRITE_SILENT, WRITE_VERIFIED};
-use crate::rows::Row;
+use crate::rows::SuiteRow;
 use spw::End;
 use std::alloc::{AllocError, Global};
 
@@ -13,7 +13,7 @@ use std::alloc::{AllocError, Global};
 /// An error if memory is refused.
 pub fn look(maker: &mut Maker, area: Area) -> Result<(), AllocError> {
     let shape = maker.shape(READ, area.extended, area.base, area.size.min(16));
-    maker.bare(Row::Memory, shape)
+    maker.bare(SuiteRow::Memory, shape)
 }
 
 /// Packets that end in EEP, whole and cut.
@@ -23,7 +23,7 @@ fn eep(alloc: Global, maker: &mut Maker, area: Area) -> Result<(), AllocError> {
             let mut shape = maker.shape(code, area.extended, area.base, plain_length(code));
             shape.end = End::Eep;
             shape.keep = keep;
-            maker.put(alloc, Row::Eep, shape)?;
+            maker.put(alloc, SuiteRow::Eep, shape)?;
         }
     }
     look(maker, area)
@@ -40,7 +40,7 @@ fn cut(
     for keep in keeps {
         let mut shape = maker.shape(code, area.extended, area.base, plain_length(code));
         shape.keep = *keep;
-        maker.full(alloc, Row::EarlyEop, shape)?;
+        maker.full(alloc, SuiteRow::EarlyEop, shape)?;
     }
     Ok(())
 }
@@ -58,26 +58,26 @@ fn too_much_data(alloc: Global, maker: &mut Maker, area: Area) -> Result<(), All
     for code in [READ, WRITE, WRITE_SILENT, RMW] {
         let mut shape = maker.shape(code, area.extended, area.base, plain_length(code));
         shape.extra = 1;
-        maker.put(alloc, Row::TooMuchData, shape)?;
+        maker.put(alloc, SuiteRow::TooMuchData, shape)?;
     }
     let mut shape = maker.shape(WRITE, area.extended, area.base, 0);
     shape.extra = 3;
-    maker.full(alloc, Row::TooMuchData, shape)?;
+    maker.full(alloc, SuiteRow::TooMuchData, shape)?;
     look(maker, area)
 }
 
 /// Packets with a wrong data CRC.
 fn data_crc(alloc: Global, maker: &mut Maker, area: Area) -> Result<(), AllocError> {
     for code in [WRITE, WRITE_SILENT, WRITE_VERIFIED, RMW] {
-        for flaw in [1_u8, 0x80] {
+        for packet_error in [1_u8, 0x80] {
             let mut shape = maker.shape(code, area.extended, area.base, plain_length(code));
-            shape.data_flaw = flaw;
-            maker.full(alloc, Row::DataCrc, shape)?;
+            shape.data_error = packet_error;
+            maker.full(alloc, SuiteRow::DataCrc, shape)?;
         }
     }
     let mut shape = maker.shape(WRITE, area.extended, area.base, 0);
-    shape.data_flaw = 1;
-    maker.full(alloc, Row::DataCrc, shape)?;
+    shape.data_error = 1;
+    maker.full(alloc, SuiteRow::DataCrc, shape)?;
     look(maker, area)
 }
 

@@ -1,12 +1,12 @@
 //! Which verdicts the programs of a node give, by the charts of a table of which they are the image.
 
-use crate::drafts::Shape;
+use crate::candidates::Shape;
 use crate::maker::{Area, Maker, READ, RMW, WRITE};
 use crate::search::Findings;
 use crate::trials::Bench;
-use charts::{Line, map_cells, point_in};
+use charts::{ChartLine, map_cells, point_in};
 use policy::Policy;
-use regions::{ByteSet, Kinds, Point, Region, Stretch};
+use regions::{ByteSet, Kinds, Point, PointRegion, Stretch};
 use rmap::{BOOT_WINDOW, CONTROL_SIZE, Kind, LOAD_REGISTER, LOAD_RESULT_SIZE, STAGING_SIZE};
 use std::alloc::{AllocError, Global};
 
@@ -16,7 +16,7 @@ pub struct Chart {
     /// The slots.
     pub slots: Vec<u8>,
     /// The lines, each with points at which the same rules are asked.
-    pub lines: Vec<Line>,
+    pub lines: Vec<ChartLine>,
 }
 
 impl Chart {
@@ -27,7 +27,7 @@ impl Chart {
     /// An error if memory is refused.
     pub fn of(alloc: Global, policy: &Policy, slots: &[u8]) -> Result<Chart, AllocError> {
         let table = policy.table_at(alloc, 0)?;
-        let all = Region::whole();
+        let all = PointRegion::whole();
         Ok(Chart {
             slots: Vec::from_slice(alloc, slots)?,
             lines: map_cells(alloc, &all, table.rules())?,
@@ -50,12 +50,12 @@ fn kinds_of(slot: u8) -> Kinds {
 }
 
 /// The commands of these kinds to an extended address, with all their bytes in `size` bytes from `base` on.
-fn range(kinds: Kinds, extended: u8, base: u32, size: u32) -> Region {
+fn range(kinds: Kinds, extended: u8, base: u32, size: u32) -> PointRegion {
     let addresses = Stretch {
         start: u64::from(base),
         end: u64::from(base) + u64::from(size),
     };
-    let mut region = Region::whole();
+    let mut region = PointRegion::whole();
     region.kinds = kinds;
     region.extended = ByteSet::only(extended);
     region.first = addresses;
@@ -64,7 +64,7 @@ fn range(kinds: Kinds, extended: u8, base: u32, size: u32) -> Region {
 }
 
 /// The commands of these kinds to exactly this many bytes of the load register.
-fn register(kinds: Kinds, size: u32) -> Region {
+fn register(kinds: Kinds, size: u32) -> PointRegion {
     let base = u64::from(LOAD_REGISTER);
     let mut region = range(kinds, BOOT_WINDOW, LOAD_REGISTER, size);
     region.first.end = base + 1;
@@ -109,7 +109,7 @@ impl Chart {
         maker: &Maker,
         findings: &mut Findings,
         slot: u8,
-        region: &Region,
+        region: &PointRegion,
     ) -> Result<(), AllocError> {
         for place in 0..self.lines.len() {
             if let Some(point) = point_in(self.lines.as_slice(), place, region) {

@@ -2,7 +2,7 @@
 
 ghost use Rattle.std.specs.Prelude.{◌≡◌, MatchResult};
 ghost use Rattle.rmap.specs.Checks.{HasPlace};
-ghost use Rattle.job_suite.specs.Checks.{GoesOn, IsStoppedBy, Meets, check_of_discard, check_of_fault};
+ghost use Rattle.job_suite.specs.Checks.{PassesHeader, IsStoppedBy, Meets, check_of_discard, check_of_fault};
 
 use rmap::{Command, Discard, HeaderFault, Place, Windows, header_check};
 use spw::Packet;
@@ -80,7 +80,7 @@ fn placed_command(command: &Command, windows: &Windows) -> Result<Place, Check>
 /// The first line of the order of checks that holds before that.
 #[tactic(auto, using(crate::proofs::Meeting::discarded, crate::proofs::Meeting::stopped, crate::proofs::Meeting::going_on))]
 pub fn placed(packet: &Packet, windows: &Windows) -> Result<Place, Check>
-    ensures { MatchResult result (GoesOn windows.now packet.now) (Meets windows.now packet.now) }
+    ensures { MatchResult result (PassesHeader windows.now packet.now) (Meets windows.now packet.now) }
 {
     match Command::view(packet) {
         Ok(command) => placed_command(&command, windows),

@@ -1,7 +1,7 @@
 //! What a packet comes to at a node, and whether that is what its row wants.
 
 ghost use Rattle.std.specs.Prelude.{◌≡◌, IsTrue, Some, None};
-ghost use Rattle.job_suite.specs.Comings.{Fits, FitsJudged, FitsStopped};
+ghost use Rattle.job_suite.specs.Comings.{FitsWanted, FitsJudged, FitsStopped};
 
 use crate::checks::Check;
 use crate::rows::Wanted;
@@ -9,7 +9,7 @@ use rmap::Status;
 
 /// What a packet comes to at a node.
 #[derive(Clone, Copy, Debug, PartialEq, Eq)]
-pub enum Came {
+pub enum PacketOutcome {
     /// This line of the order of checks is the first that holds.
     Stopped(Check),
     /// Its program gives this verdict, and the first check of its body that holds has this status; `None` if none holds.
@@ -60,11 +60,11 @@ fn fits_judged(verdict: u64, fault: Option<Status>, wanted: Wanted) -> bool
 }
 
 /// Whether what a packet comes to is what is wanted.
-pub fn fits(came: Came, wanted: Wanted) -> bool
-    ensures { IsTrue result → Fits came wanted }
+pub fn fits(received: PacketOutcome, wanted: Wanted) -> bool
+    ensures { IsTrue result → FitsWanted received wanted }
 {
-    match came {
-        Came::Stopped(check) => fits_stopped(check, wanted),
-        Came::Judged(verdict, fault) => fits_judged(verdict, fault, wanted),
+    match received {
+        PacketOutcome::Stopped(check) => fits_stopped(check, wanted),
+        PacketOutcome::Judged(verdict, fault) => fits_judged(verdict, fault, wanted),
     }
 }

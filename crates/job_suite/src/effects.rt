@@ -5,7 +5,7 @@ use crate::headers::plain_length;
 use crate::maker::{
     Area, Maker, READ, READ_ONE, RMW, WRITE, WRITE_ONE, WRITE_SILENT, WRITE_VERIFIED,
 };
-use crate::rows::Row;
+use crate::rows::SuiteRow;
 use std::alloc::{AllocError, Global};
 
 /// The lengths that are tried, as far as a bank goes.
@@ -17,14 +17,14 @@ const LENGTHS: [u32; 16] = [
 fn reads(maker: &mut Maker, area: Area) -> Result<(), AllocError> {
     for length in LENGTHS {
         let shape = maker.shape(READ, area.extended, area.base, length);
-        maker.bare(Row::Read, shape)?;
+        maker.bare(SuiteRow::Read, shape)?;
         let last = area.last(length.max(1));
         let shape = maker.shape(READ, area.extended, last, length);
-        maker.bare(Row::Read, shape)?;
+        maker.bare(SuiteRow::Read, shape)?;
     }
     for address in [area.base, area.last(1)] {
         let shape = maker.shape(READ_ONE, area.extended, address, 4);
-        maker.bare(Row::Read, shape)?;
+        maker.bare(SuiteRow::Read, shape)?;
     }
     Ok(())
 }
@@ -34,7 +34,7 @@ fn write(
     alloc: Global,
     maker: &mut Maker,
     area: Area,
-    row: Row,
+    row: SuiteRow,
     code: u8,
     address: u32,
     length: u32,
@@ -42,7 +42,7 @@ fn write(
     let shape = maker.shape(code, area.extended, address, length);
     maker.full(alloc, row, shape)?;
     let shape = maker.shape(READ, area.extended, address, length.min(64));
-    maker.bare(Row::Memory, shape)
+    maker.bare(SuiteRow::Memory, shape)
 }
 
 /// Writes of each length, at places that are drawn.
@@ -50,11 +50,11 @@ fn writes(alloc: Global, maker: &mut Maker, area: Area) -> Result<(), AllocError
     for length in LENGTHS {
         let room = area.size.saturating_sub(length).saturating_add(1);
         let address = area.base.wrapping_add(maker.draw_below(room));
-        write(alloc, maker, area, Row::Write, WRITE, address, length)?;
+        write(alloc, maker, area, SuiteRow::Write, WRITE, address, length)?;
     }
-    write(alloc, maker, area, Row::Write, WRITE, area.last(1), 1)?;
-    write(alloc, maker, area, Row::Write, WRITE_ONE, area.base, 4)?;
-    write(alloc, maker, area, Row::Write, WRITE_ONE, area.last(1), 3)
+    write(alloc, maker, area, SuiteRow::Write, WRITE, area.last(1), 1)?;
+    write(alloc, maker, area, SuiteRow::Write, WRITE_ONE, area.base, 4)?;
+    write(alloc, maker, area, SuiteRow::Write, WRITE_ONE, area.last(1), 3)
 }
 
 /// Verified writes, of up to as many bytes as the buffer takes.
@@ -64,7 +64,7 @@ fn verified_writes(alloc: Global, maker: &mut Maker, area: Area) -> Result<(), A
             alloc,
             maker,
             area,
-            Row::VerifiedWrite,
+            SuiteRow::VerifiedWrite,
             WRITE_VERIFIED,
             area.base,
             length,
@@ -78,26 +78,26 @@ fn rmws(alloc: Global, maker: &mut Maker, area: Area) -> Result<(), AllocError> 
     for length in [0_u32, 2, 4, 6, 8] {
         let room = area.size.saturating_sub(8).max(1);
         let address = area.base.wrapping_add(maker.draw_below(room));
-        write(alloc, maker, area, Row::Rmw, RMW, address, length)?;
+        write(alloc, maker, area, SuiteRow::Rmw, RMW, address, length)?;
     }
-    write(alloc, maker, area, Row::Rmw, RMW, area.last(8), 8)
+    write(alloc, maker, area, SuiteRow::Rmw, RMW, area.last(8), 8)
 }
 
 /// Commands that want no reply, each with a read of what it wrote.
 fn no_reply(alloc: Global, maker: &mut Maker, area: Area) -> Result<(), AllocError> {
     for code in [8_u8, WRITE_SILENT, 12, 13] {
-        write(alloc, maker, area, Row::NoReply, code, area.base, 4)?;
+        write(alloc, maker, area, SuiteRow::NoReply, code, area.base, 4)?;
     }
     Ok(())
 }
 
 /// Commands with other keys.
 fn key(alloc: Global, maker: &mut Maker, area: Area) -> Result<(), AllocError> {
-    for flaw in [1_u8, 0x80] {
+    for packet_error in [1_u8, 0x80] {
         for code in [READ, WRITE, RMW] {
             let mut shape = maker.shape(code, area.extended, area.base, plain_length(code));
-            shape.key ^= flaw;
-            maker.put(alloc, Row::Key, shape)?;
+            shape.key ^= packet_error;
+            maker.put(alloc, SuiteRow::Key, shape)?;
         }
         look(maker, area)?;
     }
@@ -112,7 +112,7 @@ fn reply_address(alloc: Global, maker: &mut Maker, area: Area) -> Result<(), All
                 let mut shape = maker.shape(code, area.extended, area.base, 2);
                 shape.words = words;
                 shape.path = path;
-                maker.put(alloc, Row::ReplyAddress, shape)?;
+                maker.put(alloc, SuiteRow::ReplyAddress, shape)?;
             }
         }
     }

@@ -1,7 +1,7 @@
 //! The rows of what is found in a header.
 
 use crate::maker::{Area, Maker, READ, RMW, WRITE, WRITE_SILENT, WRITE_VERIFIED};
-use crate::rows::Row;
+use crate::rows::SuiteRow;
 use std::alloc::{AllocError, Global};
 
 /// How many bytes a plain command of that code has.
@@ -14,13 +14,13 @@ fn short(maker: &mut Maker, area: Area) -> Result<(), AllocError> {
     for keep in [0_u16, 1, 2, 3, 4, 11, 15] {
         let mut shape = maker.shape(READ, area.extended, area.base, 4);
         shape.keep = keep;
-        maker.bare(Row::Short, shape)?;
+        maker.bare(SuiteRow::Short, shape)?;
     }
     for keep in [16_u16, 27] {
         let mut shape = maker.shape(READ, area.extended, area.base, 4);
         shape.words = 3;
         shape.keep = keep;
-        maker.bare(Row::Short, shape)?;
+        maker.bare(SuiteRow::Short, shape)?;
     }
     Ok(())
 }
@@ -30,11 +30,11 @@ fn protocol(alloc: Global, maker: &mut Maker, area: Area) -> Result<(), AllocErr
     for protocol in [0_u8, 2, 3, 0xFF] {
         let mut shape = maker.shape(READ, area.extended, area.base, 4);
         shape.protocol = protocol;
-        maker.bare(Row::Protocol, shape)?;
+        maker.bare(SuiteRow::Protocol, shape)?;
     }
     let mut shape = maker.shape(WRITE, area.extended, area.base, 4);
     shape.protocol = 2;
-    maker.full(alloc, Row::Protocol, shape)
+    maker.full(alloc, SuiteRow::Protocol, shape)
 }
 
 /// Packets of another type than that of commands.
@@ -43,7 +43,7 @@ fn types(
     maker: &mut Maker,
     area: Area,
     kind: u8,
-    row: Row,
+    row: SuiteRow,
 ) -> Result<(), AllocError> {
     for code in [READ, WRITE, WRITE_SILENT, RMW] {
         let mut shape = maker.shape(code, area.extended, area.base, plain_length(code));
@@ -55,11 +55,11 @@ fn types(
 
 /// Packets with a wrong header CRC.
 fn header_crc(alloc: Global, maker: &mut Maker, area: Area) -> Result<(), AllocError> {
-    for flaw in [1_u8, 0x80, 0xFF] {
+    for packet_error in [1_u8, 0x80, 0xFF] {
         for code in [READ, WRITE, RMW] {
             let mut shape = maker.shape(code, area.extended, area.base, plain_length(code));
-            shape.header_flaw = flaw;
-            maker.put(alloc, Row::HeaderCrc, shape)?;
+            shape.header_error = packet_error;
+            maker.put(alloc, SuiteRow::HeaderCrc, shape)?;
         }
     }
     Ok(())
@@ -69,7 +69,7 @@ fn header_crc(alloc: Global, maker: &mut Maker, area: Area) -> Result<(), AllocE
 fn unused_code(maker: &mut Maker, area: Area) -> Result<(), AllocError> {
     for code in [0_u8, 1, 4, 5, 6] {
         let shape = maker.shape(code, area.extended, area.base, 4);
-        maker.bare(Row::UnusedCode, shape)?;
+        maker.bare(SuiteRow::UnusedCode, shape)?;
     }
     Ok(())
 }
@@ -79,12 +79,12 @@ fn target_address(alloc: Global, maker: &mut Maker, area: Area) -> Result<(), Al
     for bit in [1_u8, 2, 4, 8, 16, 32, 64, 128] {
         let mut shape = maker.shape(READ, area.extended, area.base, 4);
         shape.target ^= bit;
-        maker.bare(Row::TargetAddress, shape)?;
+        maker.bare(SuiteRow::TargetAddress, shape)?;
     }
     for code in [WRITE, WRITE_SILENT, RMW] {
         let mut shape = maker.shape(code, area.extended, area.base, plain_length(code));
         shape.target ^= 1;
-        maker.full(alloc, Row::TargetAddress, shape)?;
+        maker.full(alloc, SuiteRow::TargetAddress, shape)?;
     }
     Ok(())
 }
@@ -93,7 +93,7 @@ fn target_address(alloc: Global, maker: &mut Maker, area: Area) -> Result<(), Al
 fn rmw_length(alloc: Global, maker: &mut Maker, area: Area) -> Result<(), AllocError> {
     for length in [1_u32, 3, 5, 7, 9, 10, 12, 16] {
         let shape = maker.shape(RMW, area.extended, area.base, length);
-        maker.full(alloc, Row::RmwLength, shape)?;
+        maker.full(alloc, SuiteRow::RmwLength, shape)?;
     }
     Ok(())
 }
@@ -102,7 +102,7 @@ fn rmw_length(alloc: Global, maker: &mut Maker, area: Area) -> Result<(), AllocE
 fn verify_buffer(alloc: Global, maker: &mut Maker, area: Area) -> Result<(), AllocError> {
     for length in [1025_u32, 2048, 4096] {
         let shape = maker.shape(WRITE_VERIFIED, area.extended, area.base, length);
-        maker.full(alloc, Row::VerifyBuffer, shape)?;
+        maker.full(alloc, SuiteRow::VerifyBuffer, shape)?;
     }
     Ok(())
 }
@@ -111,10 +111,10 @@ fn verify_buffer(alloc: Global, maker: &mut Maker, area: Area) -> Result<(), All
 fn length(alloc: Global, maker: &mut Maker, area: Area) -> Result<(), AllocError> {
     for length in [4097_u32, 5000, 65_536, 16_777_215] {
         let shape = maker.shape(READ, area.extended, area.base, length);
-        maker.bare(Row::Length, shape)?;
+        maker.bare(SuiteRow::Length, shape)?;
     }
     let shape = maker.shape(WRITE, area.extended, area.base, 4097);
-    maker.full(alloc, Row::Length, shape)
+    maker.full(alloc, SuiteRow::Length, shape)
 }
 
 /// All of these, at a bank.
@@ -125,10 +125,10 @@ fn length(alloc: Global, maker: &mut Maker, area: Area) -> Result<(), AllocError
 pub fn header_rows(alloc: Global, maker: &mut Maker, area: Area) -> Result<(), AllocError> {
     short(maker, area)?;
     protocol(alloc, maker, area)?;
-    types(alloc, maker, area, 0, Row::ReplyType)?;
+    types(alloc, maker, area, 0, SuiteRow::ReplyType)?;
     header_crc(alloc, maker, area)?;
-    types(alloc, maker, area, 2, Row::ReservedType)?;
-    types(alloc, maker, area, 3, Row::ReservedType)?;
+    types(alloc, maker, area, 2, SuiteRow::ReservedType)?;
+    types(alloc, maker, area, 3, SuiteRow::ReservedType)?;
     unused_code(maker, area)?;
     target_address(alloc, maker, area)?;
     rmw_length(alloc, maker, area)?;

@@ -1,7 +1,7 @@
 //! The index of a suite: for each line its number, its row, and what it tries.
 
-use crate::drafts::{COMMAND, Shape};
-use crate::rows::{Row, name_of};
+use crate::candidates::{COMMAND, Shape};
+use crate::rows::{SuiteRow, name_of};
 use crate::search::Findings;
 use crate::trials::Trial;
 use initiator::RMW_CODE;
@@ -35,15 +35,15 @@ fn add_code(text: &mut String, shape: &Shape) -> Result<(), AllocError> {
 }
 
 /// Adds what is spoilt in the header.
-fn add_header_flaws(text: &mut String, shape: &Shape) -> Result<(), AllocError> {
-    let (protocol, kind, flaw) = (shape.protocol, shape.kind, shape.header_flaw);
+fn add_header_errors(text: &mut String, shape: &Shape) -> Result<(), AllocError> {
+    let (protocol, kind, packet_error) = (shape.protocol, shape.kind, shape.header_error);
     if protocol != PROTOCOL {
         write!(text, ", protocol {protocol:02X}")?;
     }
     if kind != COMMAND {
         write!(text, ", packet type {kind}")?;
     }
-    if flaw != 0 {
+    if packet_error != 0 {
         write!(text, ", wrong header CRC")?;
     }
     let words = shape.words;
@@ -55,9 +55,9 @@ fn add_header_flaws(text: &mut String, shape: &Shape) -> Result<(), AllocError> 
 }
 
 /// Adds what is spoilt after the header.
-fn add_body_flaws(text: &mut String, shape: &Shape) -> Result<(), AllocError> {
+fn add_body_errors(text: &mut String, shape: &Shape) -> Result<(), AllocError> {
     let (keep, extra) = (shape.keep, shape.extra);
-    if shape.data_flaw != 0 {
+    if shape.data_error != 0 {
         write!(text, ", wrong data CRC")?;
     }
     if keep < 4200 {
@@ -77,7 +77,7 @@ fn add_body_flaws(text: &mut String, shape: &Shape) -> Result<(), AllocError> {
 fn add_addresses(
     text: &mut String,
     address: u8,
-    row: Row,
+    row: SuiteRow,
     shape: &Shape,
 ) -> Result<(), AllocError> {
     let (target, initiator, key) = (shape.target, shape.initiator, shape.key);
@@ -85,7 +85,7 @@ fn add_addresses(
         write!(text, ", target {target:02X}")?;
     }
     match row {
-        Row::Program(_) | Row::ProgramBeforeEep(_) | Row::Key => {
+        SuiteRow::Program(_) | SuiteRow::ProgramBeforeEep(_) | SuiteRow::Key => {
             write!(text, ", initiator {initiator:02X}, key {key:02X}")
         }
         _ => Ok(()),
@@ -110,8 +110,8 @@ fn add_trial(
     )?;
     add_code(text, shape)?;
     add_addresses(text, address, trial.row, shape)?;
-    add_header_flaws(text, shape)?;
-    add_body_flaws(text, shape)?;
+    add_header_errors(text, shape)?;
+    add_body_errors(text, shape)?;
     writeln!(text)
 }
 
@@ -157,7 +157,7 @@ fn slot_of(shape: &Shape) -> u8 {
 /// Whether a packet is of the row of a verdict, and for a slot.
 fn is_judged(verdict: u64, slot: u8, trials: &[Trial]) -> bool {
     for trial in trials {
-        if trial.row == Row::Program(verdict) && slot_of(&trial.shape) == slot {
+        if trial.row == SuiteRow::Program(verdict) && slot_of(&trial.shape) == slot {
             return true;
         }
     }
@@ -188,7 +188,7 @@ pub fn add_missing_verdict(
 }
 
 /// Whether a packet is of a row.
-pub fn is_there(row: Row, trials: &[Trial]) -> bool {
+pub fn is_there(row: SuiteRow, trials: &[Trial]) -> bool {
     for trial in trials {
         if trial.row == row {
             return true;
@@ -202,8 +202,8 @@ pub fn is_there(row: Row, trials: &[Trial]) -> bool {
 /// # Errors
 ///
 /// An error if memory is refused.
-pub fn add_missing_row(alloc: Global, text: &mut String, row: Row) -> Result<(), AllocError> {
-    if let Row::Program(_) = row {
+pub fn add_missing_row(alloc: Global, text: &mut String, row: SuiteRow) -> Result<(), AllocError> {
+    if let SuiteRow::Program(_) = row {
         return Ok(());
     }
     let name = name_of(alloc, row)?;

@@ -3,7 +3,7 @@
 ghost use Rattle.std.specs.Prelude.{◌≡◌, IfOk};
 ghost use Rattle.node_parts.specs.Slots.{slot_of};
 ghost use Rattle.rmap.specs.Command.{command_kind};
-ghost use Rattle.job_suite.specs.Judges.{AreJudges, HasAnswered, judge_among, judge_after, judge_of};
+ghost use Rattle.job_suite.specs.Judges.{AreJudges, HasJudgedAtPortZero, judge_among, judge_after, judge_of};
 
 use brun::run;
 use bver::Accepted;
@@ -43,7 +43,7 @@ fn judge_among<'b>(first: &'b Accepted, publishes: &'b [(u8, Accepted)], slot: u
 
 /// The verdict of a program on the header of a command, at port 0, on cells that nobody asked.
 fn verdict_on(alloc: Global, judge: &Accepted, command: &Command) -> Result<u64, AllocError>
-    ensures { IfOk result (HasAnswered judge.now command.now) }
+    ensures { IfOk result (HasJudgedAtPortZero judge.now command.now) }
 {
     let mut cells = PlainCells::new(alloc, &judge.sizes())?;
     let mut stack = [0; STACK_SIZE];
@@ -75,7 +75,7 @@ impl Judges {
     /// An error if memory is refused.
     pub fn verdict(&self, alloc: Global, command: &Command, place: Place) -> Result<u64, AllocError>
         ensures { IfOk result
-            (HasAnswered (judge_of self.now (slot_of (command_kind command.now) place)) command.now) }
+            (HasJudgedAtPortZero (judge_of self.now (slot_of (command_kind command.now) place)) command.now) }
     {
         let judge = self.judge(slot(command.kind(), place));
         verdict_on(alloc, judge, command)

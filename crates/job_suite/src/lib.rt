@@ -5,7 +5,7 @@ mod bodies;
 mod charted;
 pub mod checks;
 pub mod comings;
-pub mod drafts;
+pub mod candidates;
 mod effects;
 mod headers;
 mod index;

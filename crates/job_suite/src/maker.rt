@@ -1,7 +1,7 @@
 //! What makes the drafts of a suite: the fields that are drawn, and the list.
 
-use crate::drafts::{Asker, COMMAND, Draft, Shape};
-use crate::rows::Row;
+use crate::candidates::{SuiteInitiator, COMMAND, Candidate, Shape};
+use crate::rows::SuiteRow;
 use initiator::RMW_CODE;
 use node_parts::BankConfig;
 use rmap::PROTOCOL;
@@ -70,11 +70,11 @@ impl Area {
 #[derive(Debug, Drop)]
 pub struct Maker {
     /// The drafts so far.
-    pub drafts: Vec<Draft>,
+    pub candidates: Vec<Candidate>,
     /// The logical address of the node.
     pub target: u8,
     /// Who asks.
-    pub asker: Asker,
+    pub asker: SuiteInitiator,
     transaction: u16,
     random: u64,
 }
@@ -83,9 +83,9 @@ impl Maker {
     /// One without drafts.
     pub fn new(alloc: Global, target: u8, seed: u32) -> Maker {
         let mut maker = Maker {
-            drafts: Vec::new(alloc),
+            candidates: Vec::new(alloc),
             target,
-            asker: Asker {
+            asker: SuiteInitiator {
                 initiator: 0x67,
                 key: 0,
             },
@@ -93,7 +93,7 @@ impl Maker {
             random: u64::from(seed),
         };
         maker.transaction = (maker.draw() % 65_536) as u16;
-        maker.asker = Asker {
+        maker.asker = SuiteInitiator {
             initiator: (32 + maker.draw() % 192) as u8,
             key: maker.draw_byte(),
         };
@@ -148,8 +148,8 @@ impl Maker {
             extended,
             address,
             length,
-            header_flaw: 0,
-            data_flaw: 0,
+            header_error: 0,
+            data_error: 0,
             keep: ALL,
             extra: 0,
             end: End::Eop,
@@ -163,13 +163,13 @@ impl Maker {
     /// An error if memory is refused.
     pub fn push(
         &mut self,
-        row: Row,
+        row: SuiteRow,
         mut shape: Shape,
         data: Option<Vec<u8>>,
     ) -> Result<(), AllocError> {
         shape.transaction = self.transaction;
         self.transaction = self.transaction.wrapping_add(1);
-        self.drafts.push(Draft { row, shape, data })?;
+        self.candidates.push(Candidate { row, shape, data })?;
         Ok(())
     }
 
@@ -178,7 +178,7 @@ impl Maker {
     /// # Errors
     ///
     /// An error if memory is refused.
-    pub fn bare(&mut self, row: Row, shape: Shape) -> Result<(), AllocError> {
+    pub fn bare(&mut self, row: SuiteRow, shape: Shape) -> Result<(), AllocError> {
         self.push(row, shape, None)
     }
 
@@ -187,7 +187,7 @@ impl Maker {
     /// # Errors
     ///
     /// An error if memory is refused.
-    pub fn full(&mut self, alloc: Global, row: Row, shape: Shape) -> Result<(), AllocError> {
+    pub fn full(&mut self, alloc: Global, row: SuiteRow, shape: Shape) -> Result<(), AllocError> {
         let data = self.bytes(alloc, shape.length.min(4097))?;
         self.push(row, shape, Some(data))
     }
@@ -197,7 +197,7 @@ impl Maker {
     /// # Errors
     ///
     /// An error if memory is refused.
-    pub fn put(&mut self, alloc: Global, row: Row, shape: Shape) -> Result<(), AllocError> {
+    pub fn put(&mut self, alloc: Global, row: SuiteRow, shape: Shape) -> Result<(), AllocError> {
         if shape.code >= 8 || shape.code == RMW {
             self.full(alloc, row, shape)
         } else {
@@ -206,7 +206,7 @@ impl Maker {
     }
 
     /// The drafts.
-    pub fn into_drafts(self) -> Vec<Draft> {
-        self.drafts
+    pub fn into_candidates(self) -> Vec<Candidate> {
+        self.candidates
     }
 }

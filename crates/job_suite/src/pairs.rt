@@ -1,7 +1,7 @@
 //! The rows of packets with two faults, of which the first in the order of checks decides.
 
 use crate::maker::{Area, Maker, READ, RMW, WRITE, WRITE_VERIFIED};
-use crate::rows::Row;
+use crate::rows::SuiteRow;
 use std::alloc::{AllocError, Global};
 
 /// Pairs of which the first is a reason to discard.
@@ -10,41 +10,41 @@ fn discards(maker: &mut Maker, area: Area) -> Result<(), AllocError> {
     let mut shape = plain;
     shape.protocol = 2;
     shape.keep = 2;
-    maker.bare(Row::ShortBeforeProtocol, shape)?;
+    maker.bare(SuiteRow::ShortBeforeProtocol, shape)?;
     shape.keep = 5;
-    maker.bare(Row::ProtocolBeforeShort, shape)?;
+    maker.bare(SuiteRow::ProtocolBeforeShort, shape)?;
     let mut shape = plain;
     shape.protocol = 2;
     shape.kind = 0;
-    maker.bare(Row::ProtocolBeforeReplyType, shape)?;
+    maker.bare(SuiteRow::ProtocolBeforeReplyType, shape)?;
     let mut shape = plain;
     shape.kind = 0;
     shape.keep = 5;
-    maker.bare(Row::ReplyTypeBeforeShort, shape)?;
+    maker.bare(SuiteRow::ReplyTypeBeforeShort, shape)?;
     let mut shape = plain;
     shape.kind = 0;
-    shape.header_flaw = 1;
-    maker.bare(Row::ReplyTypeBeforeHeaderCrc, shape)?;
+    shape.header_error = 1;
+    maker.bare(SuiteRow::ReplyTypeBeforeHeaderCrc, shape)?;
     let mut shape = plain;
     shape.code = 6;
-    shape.header_flaw = 1;
-    maker.bare(Row::HeaderCrcBeforeUnusedCode, shape)
+    shape.header_error = 1;
+    maker.bare(SuiteRow::HeaderCrcBeforeUnusedCode, shape)
 }
 
 /// Pairs of which the first is a fault of the header.
 fn headers(alloc: Global, maker: &mut Maker, area: Area, banks: u8) -> Result<(), AllocError> {
     let mut shape = maker.shape(6, area.extended, area.base, 4);
     shape.target ^= 1;
-    maker.bare(Row::UnusedCodeBeforeTargetAddress, shape)?;
+    maker.bare(SuiteRow::UnusedCodeBeforeTargetAddress, shape)?;
     let mut shape = maker.shape(RMW, area.extended, area.base, 3);
     shape.target ^= 1;
-    maker.full(alloc, Row::TargetAddressBeforeRmwLength, shape)?;
+    maker.full(alloc, SuiteRow::TargetAddressBeforeRmwLength, shape)?;
     let shape = maker.shape(RMW, area.extended, area.base, 1026);
-    maker.full(alloc, Row::RmwLengthBeforeVerifyBuffer, shape)?;
+    maker.full(alloc, SuiteRow::RmwLengthBeforeVerifyBuffer, shape)?;
     let shape = maker.shape(WRITE_VERIFIED, area.extended, area.base, 4097);
-    maker.full(alloc, Row::VerifyBufferBeforeLength, shape)?;
+    maker.full(alloc, SuiteRow::VerifyBufferBeforeLength, shape)?;
     let shape = maker.shape(READ, banks, area.base, 4097);
-    maker.bare(Row::LengthBeforePlace, shape)
+    maker.bare(SuiteRow::LengthBeforePlace, shape)
 }
 
 /// Pairs before the program.
@@ -71,9 +71,9 @@ pub fn body_pairs(alloc: Global, maker: &mut Maker, area: Area) -> Result<(), Al
     let mut shape = maker.shape(WRITE, area.extended, area.base, 4);
     shape.keep = 18;
     shape.end = spw::End::Eep;
-    maker.full(alloc, Row::EepBeforeEarlyEop, shape)?;
+    maker.full(alloc, SuiteRow::EepBeforeEarlyEop, shape)?;
     let mut shape = maker.shape(WRITE, area.extended, area.base, 4);
     shape.extra = 1;
-    shape.data_flaw = 1;
-    maker.full(alloc, Row::TooMuchDataBeforeDataCrc, shape)
+    shape.data_error = 1;
+    maker.full(alloc, SuiteRow::TooMuchDataBeforeDataCrc, shape)
 }

@@ -2,7 +2,7 @@
 
 use crate::headers::plain_length;
 use crate::maker::{Area, Maker, READ, READ_ONE, RMW, WRITE, WRITE_ONE};
-use crate::rows::Row;
+use crate::rows::SuiteRow;
 use rmap::{BOOT_WINDOW, LOAD_REGISTER, STAGING_SIZE};
 use std::alloc::{AllocError, Global};
 
@@ -16,7 +16,7 @@ fn at(
     length: u32,
 ) -> Result<(), AllocError> {
     let shape = maker.shape(code, extended, address, length);
-    maker.put(alloc, Row::Place, shape)
+    maker.put(alloc, SuiteRow::Place, shape)
 }
 
 /// Commands beside a bank: one before its first byte, one past its last, and across its end.

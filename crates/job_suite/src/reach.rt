@@ -1,9 +1,9 @@
 //! What a packet might change, whatever else is wrong with it.
 
 ghost use Rattle.std.specs.Prelude.{◌≡◌, ◌≤◌, ◌+◌, drop, length, take};
-ghost use Rattle.job_suite.specs.Reach.{are_within, is_in, is_printed, last_of, may_change, may_reach, reach_in, reach_of};
+ghost use Rattle.job_suite.specs.Reach.{are_reached_within, is_in, is_printed, last_reached_of, may_change, may_reach, reach_in, reach_of};
 
-use crate::ranges::Range;
+use crate::ranges::MemoryRange;
 use byteorder::{BigEndian, ByteOrder};
 use rmap::{BOOT_WINDOW, Instruction};
 
@@ -28,8 +28,8 @@ fn may_change(instruction: u8) -> bool
 }
 
 /// The last address of bytes from that address on.
-fn last_of(instruction: u8, address: u32, length: u32) -> u64
-    ensures { result ≡ last_of instruction address length }
+fn last_reached_of(instruction: u8, address: u32, length: u32) -> u64
+    ensures { result ≡ last_reached_of instruction address length }
 {
     if Instruction(instruction).increments() && length > 0 {
         u64::from(address) + u64::from(length) - 1
@@ -57,7 +57,7 @@ fn reach_in(instruction: u8, tail: &[u8]) -> Reach
     Reach {
         extended: tail[3],
         low: address,
-        high: last_of(instruction, address, length),
+        high: last_reached_of(instruction, address, length),
     }
 }
 
@@ -82,7 +82,7 @@ pub fn reach_of(bytes: &[u8]) -> Option<Reach>
 }
 
 /// Whether the range has all that is reached.
-fn is_in(range: &Range, reach: &Reach) -> bool
+fn is_in(range: &MemoryRange, reach: &Reach) -> bool
     ensures { result ≡ is_in range.now reach.now }
 {
     let high = u64::from(range.high);
@@ -90,8 +90,8 @@ fn is_in(range: &Range, reach: &Reach) -> bool
 }
 
 /// Whether one of the ranges has all that is reached.
-fn are_within(ranges: &[Range], reach: &Reach) -> bool
-    ensures { result ≡ are_within ranges.now reach.now }
+fn are_reached_within(ranges: &[MemoryRange], reach: &Reach) -> bool
+    ensures { result ≡ are_reached_within ranges.now reach.now }
 {
     for range in ranges {
         if is_in(range, reach) {
@@ -103,7 +103,7 @@ fn are_within(ranges: &[Range], reach: &Reach) -> bool
 
 /// Whether what is reached may change, if memory may change in these ranges. With `loads` the boot window may change
 /// too.
-fn may_reach(ranges: &[Range], loads: bool, reach: Option<Reach>) -> bool
+fn may_reach(ranges: &[MemoryRange], loads: bool, reach: Option<Reach>) -> bool
     ensures { result ≡ may_reach ranges.now loads reach }
 {
     match reach {
@@ -112,7 +112,7 @@ fn may_reach(ranges: &[Range], loads: bool, reach: Option<Reach>) -> bool
             if reach.extended == BOOT_WINDOW && loads {
                 true
             } else {
-                are_within(ranges, &reach)
+                are_reached_within(ranges, &reach)
             }
         }
     }
@@ -120,7 +120,7 @@ fn may_reach(ranges: &[Range], loads: bool, reach: Option<Reach>) -> bool
 
 /// Whether a packet of these bytes may be printed, if memory may change in these ranges. With `loads` the boot window
 /// may change too.
-pub fn is_printed(ranges: &[Range], loads: bool, bytes: &[u8]) -> bool
+pub fn is_printed(ranges: &[MemoryRange], loads: bool, bytes: &[u8]) -> bool
     ensures { result ≡ is_printed ranges.now loads bytes.now }
 {
     may_reach(ranges, loads, reach_of(bytes))

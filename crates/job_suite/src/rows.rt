@@ -1,7 +1,7 @@
 //! The rows of a suite: what a packet tries, and what it must meet.
 
 ghost use Rattle.std.specs.Prelude.{◌≡◌};
-ghost use Rattle.job_suite.specs.Rows.{is_beginning, is_beginning_among, wanted_of, word_of};
+ghost use Rattle.job_suite.specs.Rows.{is_beginning, is_beginning_among, wanted_of, row_word_of};
 
 use crate::checks::Check;
 use rmap::Status;
@@ -24,7 +24,7 @@ pub enum Wanted {
 
 /// A row. The name of a pair is that of its first line, `+`, and that of the line that would hold without the first.
 #[derive(Clone, Copy, Debug, PartialEq, Eq)]
-pub enum Row {
+pub enum SuiteRow {
     /// Fewer bytes than the header has.
     Short,
     /// Fewer than three bytes, and another protocol.
@@ -108,136 +108,136 @@ pub enum Row {
 }
 
 /// All rows; all verdicts of a program are one row.
-pub const ROWS: [Row; 39] = [
-    Row::Short,
-    Row::ShortBeforeProtocol,
-    Row::Protocol,
-    Row::ProtocolBeforeReplyType,
-    Row::ProtocolBeforeShort,
-    Row::ReplyType,
-    Row::ReplyTypeBeforeShort,
-    Row::ReplyTypeBeforeHeaderCrc,
-    Row::HeaderCrc,
-    Row::HeaderCrcBeforeUnusedCode,
-    Row::ReservedType,
-    Row::UnusedCode,
-    Row::UnusedCodeBeforeTargetAddress,
-    Row::TargetAddress,
-    Row::TargetAddressBeforeRmwLength,
-    Row::RmwLength,
-    Row::RmwLengthBeforeVerifyBuffer,
-    Row::VerifyBuffer,
-    Row::VerifyBufferBeforeLength,
-    Row::Length,
-    Row::LengthBeforePlace,
-    Row::Place,
-    Row::Program(0),
-    Row::Key,
-    Row::Eep,
-    Row::EepBeforeEarlyEop,
-    Row::EarlyEop,
-    Row::TooMuchData,
-    Row::TooMuchDataBeforeDataCrc,
-    Row::DataCrc,
-    Row::ReplyAddress,
-    Row::NoReply,
-    Row::Read,
-    Row::Write,
-    Row::VerifiedWrite,
-    Row::Rmw,
-    Row::Memory,
-    Row::BootWindow,
-    Row::Load,
+pub const ROWS: [SuiteRow; 39] = [
+    SuiteRow::Short,
+    SuiteRow::ShortBeforeProtocol,
+    SuiteRow::Protocol,
+    SuiteRow::ProtocolBeforeReplyType,
+    SuiteRow::ProtocolBeforeShort,
+    SuiteRow::ReplyType,
+    SuiteRow::ReplyTypeBeforeShort,
+    SuiteRow::ReplyTypeBeforeHeaderCrc,
+    SuiteRow::HeaderCrc,
+    SuiteRow::HeaderCrcBeforeUnusedCode,
+    SuiteRow::ReservedType,
+    SuiteRow::UnusedCode,
+    SuiteRow::UnusedCodeBeforeTargetAddress,
+    SuiteRow::TargetAddress,
+    SuiteRow::TargetAddressBeforeRmwLength,
+    SuiteRow::RmwLength,
+    SuiteRow::RmwLengthBeforeVerifyBuffer,
+    SuiteRow::VerifyBuffer,
+    SuiteRow::VerifyBufferBeforeLength,
+    SuiteRow::Length,
+    SuiteRow::LengthBeforePlace,
+    SuiteRow::Place,
+    SuiteRow::Program(0),
+    SuiteRow::Key,
+    SuiteRow::Eep,
+    SuiteRow::EepBeforeEarlyEop,
+    SuiteRow::EarlyEop,
+    SuiteRow::TooMuchData,
+    SuiteRow::TooMuchDataBeforeDataCrc,
+    SuiteRow::DataCrc,
+    SuiteRow::ReplyAddress,
+    SuiteRow::NoReply,
+    SuiteRow::Read,
+    SuiteRow::Write,
+    SuiteRow::VerifiedWrite,
+    SuiteRow::Rmw,
+    SuiteRow::Memory,
+    SuiteRow::BootWindow,
+    SuiteRow::Load,
 ];
 
-impl Row {
+impl SuiteRow {
     /// What a packet of the row must meet.
     pub fn wanted(self) -> Wanted
         ensures { result ≡ wanted_of self }
     {
         match self {
-            Row::Short | Row::ShortBeforeProtocol => Wanted::Stopped(Check::Short),
-            Row::Protocol | Row::ProtocolBeforeReplyType | Row::ProtocolBeforeShort => {
+            SuiteRow::Short | SuiteRow::ShortBeforeProtocol => Wanted::Stopped(Check::Short),
+            SuiteRow::Protocol | SuiteRow::ProtocolBeforeReplyType | SuiteRow::ProtocolBeforeShort => {
                 Wanted::Stopped(Check::Protocol)
             }
-            Row::ReplyType | Row::ReplyTypeBeforeShort | Row::ReplyTypeBeforeHeaderCrc => {
+            SuiteRow::ReplyType | SuiteRow::ReplyTypeBeforeShort | SuiteRow::ReplyTypeBeforeHeaderCrc => {
                 Wanted::Stopped(Check::ReplyType)
             }
-            Row::HeaderCrc | Row::HeaderCrcBeforeUnusedCode => Wanted::Stopped(Check::HeaderCrc),
-            Row::ReservedType | Row::UnusedCode | Row::UnusedCodeBeforeTargetAddress => {
+            SuiteRow::HeaderCrc | SuiteRow::HeaderCrcBeforeUnusedCode => Wanted::Stopped(Check::HeaderCrc),
+            SuiteRow::ReservedType | SuiteRow::UnusedCode | SuiteRow::UnusedCodeBeforeTargetAddress => {
                 Wanted::Stopped(Check::UnusedCode)
             }
-            Row::TargetAddress | Row::TargetAddressBeforeRmwLength => {
+            SuiteRow::TargetAddress | SuiteRow::TargetAddressBeforeRmwLength => {
                 Wanted::Stopped(Check::OtherTarget)
             }
-            Row::RmwLength | Row::RmwLengthBeforeVerifyBuffer => Wanted::Stopped(Check::RmwLength),
-            Row::VerifyBuffer | Row::VerifyBufferBeforeLength => {
+            SuiteRow::RmwLength | SuiteRow::RmwLengthBeforeVerifyBuffer => Wanted::Stopped(Check::RmwLength),
+            SuiteRow::VerifyBuffer | SuiteRow::VerifyBufferBeforeLength => {
                 Wanted::Stopped(Check::VerifyBuffer)
             }
-            Row::Length | Row::LengthBeforePlace => Wanted::Stopped(Check::Length),
-            Row::Place => Wanted::Stopped(Check::Place),
-            Row::Program(verdict) | Row::ProgramBeforeEep(verdict) => Wanted::Judged(verdict),
-            Row::Key => Wanted::Brought,
-            Row::Eep | Row::EepBeforeEarlyEop => Wanted::Spoilt(Status::ErrorEndOfPacket),
-            Row::EarlyEop => Wanted::Spoilt(Status::EarlyEndOfPacket),
-            Row::TooMuchData | Row::TooMuchDataBeforeDataCrc => Wanted::Spoilt(Status::TooMuchData),
-            Row::DataCrc => Wanted::Spoilt(Status::InvalidDataCrc),
-            Row::ReplyAddress
-            | Row::NoReply
-            | Row::Read
-            | Row::Write
-            | Row::VerifiedWrite
-            | Row::Rmw
-            | Row::Memory
-            | Row::BootWindow
-            | Row::Load => Wanted::Whole,
+            SuiteRow::Length | SuiteRow::LengthBeforePlace => Wanted::Stopped(Check::Length),
+            SuiteRow::Place => Wanted::Stopped(Check::Place),
+            SuiteRow::Program(verdict) | SuiteRow::ProgramBeforeEep(verdict) => Wanted::Judged(verdict),
+            SuiteRow::Key => Wanted::Brought,
+            SuiteRow::Eep | SuiteRow::EepBeforeEarlyEop => Wanted::Spoilt(Status::ErrorEndOfPacket),
+            SuiteRow::EarlyEop => Wanted::Spoilt(Status::EarlyEndOfPacket),
+            SuiteRow::TooMuchData | SuiteRow::TooMuchDataBeforeDataCrc => Wanted::Spoilt(Status::TooMuchData),
+            SuiteRow::DataCrc => Wanted::Spoilt(Status::InvalidDataCrc),
+            SuiteRow::ReplyAddress
+            | SuiteRow::NoReply
+            | SuiteRow::Read
+            | SuiteRow::Write
+            | SuiteRow::VerifiedWrite
+            | SuiteRow::Rmw
+            | SuiteRow::Memory
+            | SuiteRow::BootWindow
+            | SuiteRow::Load => Wanted::Whole,
         }
     }
 
     /// The name of the row, without the verdict of a row of the program.
     fn word(self) -> &'static str
-        ensures { result.now ≡ word_of self }
+        ensures { result.now ≡ row_word_of self }
     {
         match self {
-            Row::Short => "short",
-            Row::ShortBeforeProtocol => "short+protocol",
-            Row::Protocol => "protocol",
-            Row::ProtocolBeforeReplyType => "protocol+reply-type",
-            Row::ProtocolBeforeShort => "protocol+short",
-            Row::ReplyType => "reply-type",
-            Row::ReplyTypeBeforeShort => "reply-type+short",
-            Row::ReplyTypeBeforeHeaderCrc => "reply-type+header-crc",
-            Row::HeaderCrc => "header-crc",
-            Row::HeaderCrcBeforeUnusedCode => "header-crc+unused-code",
-            Row::ReservedType => "reserved-type",
-            Row::UnusedCode => "unused-code",
-            Row::UnusedCodeBeforeTargetAddress => "unused-code+target-address",
-            Row::TargetAddress => "target-address",
-            Row::TargetAddressBeforeRmwLength => "target-address+rmw-length",
-            Row::RmwLength => "rmw-length",
-            Row::RmwLengthBeforeVerifyBuffer => "rmw-length+verify-buffer",
-            Row::VerifyBuffer => "verify-buffer",
-            Row::VerifyBufferBeforeLength => "verify-buffer+length",
-            Row::Length => "length",
-            Row::LengthBeforePlace => "length+place",
-            Row::Place => "place",
-            Row::Program(_) | Row::ProgramBeforeEep(_) => "program",
-            Row::Key => "key",
-            Row::Eep => "eep",
-            Row::EepBeforeEarlyEop => "eep+early-eop",
-            Row::EarlyEop => "early-eop",
-            Row::TooMuchData => "too-much-data",
-            Row::TooMuchDataBeforeDataCrc => "too-much-data+data-crc",
-            Row::DataCrc => "data-crc",
-            Row::ReplyAddress => "reply-address",
-            Row::NoReply => "no-reply",
-            Row::Read => "read",
-            Row::Write => "write",
-            Row::VerifiedWrite => "verified-write",
-            Row::Rmw => "rmw",
-            Row::Memory => "memory",
-            Row::BootWindow => "boot-window",
-            Row::Load => "load",
+            SuiteRow::Short => "short",
+            SuiteRow::ShortBeforeProtocol => "short+protocol",
+            SuiteRow::Protocol => "protocol",
+            SuiteRow::ProtocolBeforeReplyType => "protocol+reply-type",
+            SuiteRow::ProtocolBeforeShort => "protocol+short",
+            SuiteRow::ReplyType => "reply-type",
+            SuiteRow::ReplyTypeBeforeShort => "reply-type+short",
+            SuiteRow::ReplyTypeBeforeHeaderCrc => "reply-type+header-crc",
+            SuiteRow::HeaderCrc => "header-crc",
+            SuiteRow::HeaderCrcBeforeUnusedCode => "header-crc+unused-code",
+            SuiteRow::ReservedType => "reserved-type",
+            SuiteRow::UnusedCode => "unused-code",
+            SuiteRow::UnusedCodeBeforeTargetAddress => "unused-code+target-address",
+            SuiteRow::TargetAddress => "target-address",
+            SuiteRow::TargetAddressBeforeRmwLength => "target-address+rmw-length",
+            SuiteRow::RmwLength => "rmw-length",
+            SuiteRow::RmwLengthBeforeVerifyBuffer => "rmw-length+verify-buffer",
+            SuiteRow::VerifyBuffer => "verify-buffer",
+            SuiteRow::VerifyBufferBeforeLength => "verify-buffer+length",
+            SuiteRow::Length => "length",
+            SuiteRow::LengthBeforePlace => "length+place",
+            SuiteRow::Place => "place",
+            SuiteRow::Program(_) | SuiteRow::ProgramBeforeEep(_) => "program",
+            SuiteRow::Key => "key",
+            SuiteRow::Eep => "eep",
+            SuiteRow::EepBeforeEarlyEop => "eep+early-eop",
+            SuiteRow::EarlyEop => "early-eop",
+            SuiteRow::TooMuchData => "too-much-data",
+            SuiteRow::TooMuchDataBeforeDataCrc => "too-much-data+data-crc",
+            SuiteRow::DataCrc => "data-crc",
+            SuiteRow::ReplyAddress => "reply-address",
+            SuiteRow::NoReply => "no-reply",
+            SuiteRow::Read => "read",
+            SuiteRow::Write => "write",
+            SuiteRow::VerifiedWrite => "verified-write",
+            SuiteRow::Rmw => "rmw",
+            SuiteRow::Memory => "memory",
+            SuiteRow::BootWindow => "boot-window",
+            SuiteRow::Load => "load",
         }
     }
 }
@@ -247,16 +247,16 @@ impl Row {
 /// # Errors
 ///
 /// An error if memory is refused.
-pub fn name_of(alloc: Global, row: Row) -> Result<String, AllocError> {
+pub fn name_of(alloc: Global, row: SuiteRow) -> Result<String, AllocError> {
     match row {
-        Row::Program(verdict) => format!(in alloc; "program-{verdict}"),
-        Row::ProgramBeforeEep(verdict) => format!(in alloc; "program-{verdict}+eep"),
+        SuiteRow::Program(verdict) => format!(in alloc; "program-{verdict}"),
+        SuiteRow::ProgramBeforeEep(verdict) => format!(in alloc; "program-{verdict}+eep"),
         _ => String::from_str(alloc, row.word()),
     }
 }
 
 /// Whether the names of some of these rows begin so, without the verdicts of programs.
-fn is_beginning_among(rows: &[Row], word: &str) -> bool
+fn is_beginning_among(rows: &[SuiteRow], word: &str) -> bool
     ensures { result ≡ is_beginning_among rows.now word.now }
 {
     for row in rows {

@@ -1,11 +1,11 @@
 //! Which verdicts the programs of a node give, and to whom: a search over the fields that a program reads.
 
 use crate::charted::Chart;
-use crate::comings::Came;
-use crate::drafts::{Asker, Shape};
+use crate::comings::PacketOutcome;
+use crate::candidates::{SuiteInitiator, Shape};
 use crate::maker::{Area, Maker, READ, READ_ONE, RMW, WRITE, WRITE_ONE, WRITE_VERIFIED};
-use crate::rows::Row;
-use crate::seen::{Seen, numbers_in};
+use crate::rows::SuiteRow;
+use crate::seen::{HeaderReads, numbers_in};
 use crate::trials::Bench;
 use rmap::{BOOT_WINDOW, LOAD_REGISTER, STAGING_SIZE};
 use spw::{End, Packet};
@@ -29,7 +29,7 @@ const ASKERS: usize = 2;
 
 /// A verdict that was found, and the command that has it.
 #[derive(Clone, Copy, Debug)]
-pub struct Found {
+pub struct FoundVerdict {
     /// The slot.
     pub slot: u8,
     /// The verdict.
@@ -46,14 +46,14 @@ pub struct Passer {
     /// The extended address.
     pub extended: u8,
     /// Who asks.
-    pub asker: Asker,
+    pub asker: SuiteInitiator,
 }
 
 /// What is found.
 #[derive(Debug, Drop)]
 pub struct Findings {
     /// A command for each verdict of each slot.
-    pub found: Vec<Found>,
+    pub found: Vec<FoundVerdict>,
     /// Who passes somewhere.
     pub passers: Vec<Passer>,
 }
@@ -61,7 +61,7 @@ pub struct Findings {
 /// The values that are tried of each field that a program reads; of any other one.
 #[derive(Debug, Drop)]
 struct Space {
-    seen: Seen,
+    seen: HeaderReads,
     slot: u8,
     extended: u8,
     codes: Vec<u32>,
@@ -215,7 +215,7 @@ impl Findings {
     }
 
     /// Whether it is known that this one passes somewhere.
-    fn knows(&self, asker: Asker) -> bool {
+    fn knows(&self, asker: SuiteInitiator) -> bool {
         for known in self.passers.as_slice() {
             if known.asker.initiator == asker.initiator && known.asker.key == asker.key {
                 return true;
@@ -249,7 +249,7 @@ impl Findings {
     /// # Errors
     ///
     /// An error if memory is refused.
-    pub fn askers(&self, alloc: Global) -> Result<Vec<Asker>, AllocError> {
+    pub fn askers(&self, alloc: Global) -> Result<Vec<SuiteInitiator>, AllocError> {
         let mut askers = Vec::new(alloc);
         for known in self.passers.as_slice() {
             askers.push(known.asker)?;
@@ -268,7 +268,7 @@ impl Findings {
             })?;
         }
         if !self.has(slot, verdict) {
-            self.found.push(Found {
+            self.found.push(FoundVerdict {
                 slot,
                 verdict,
                 shape,
@@ -310,8 +310,8 @@ impl Findings {
             return Ok(());
         };
         match bench.come(alloc, &packet)? {
-            Came::Judged(verdict, _) => self.note(slot, verdict, shape),
-            Came::Stopped(_) => Ok(()),
+            PacketOutcome::Judged(verdict, _) => self.note(slot, verdict, shape),
+            PacketOutcome::Stopped(_) => Ok(()),
         }
     }
 }
@@ -334,7 +334,7 @@ fn space_of(
     slot: u8,
     codes: &[u32],
     area: Area,
-    seen: Seen,
+    seen: HeaderReads,
 ) -> Result<Space, AllocError> {
     let (key, initiator) = (u32::from(maker.asker.key), u32::from(maker.asker.initiator));
     Ok(Space {
@@ -360,7 +360,7 @@ fn search_slot(
     area: Area,
 ) -> Result<(), AllocError> {
     let program = bench.judges.judge(slot);
-    let mut space = space_of(alloc, maker, slot, codes, area, Seen::of(program))?;
+    let mut space = space_of(alloc, maker, slot, codes, area, HeaderReads::of(program))?;
     let numbers = numbers_in(alloc, program.image())?;
     space.note_numbers(numbers.as_slice(), area.base, area.last(1))?;
     if slot == 3 {
@@ -458,11 +458,11 @@ pub fn program_rows(
     findings: &Findings,
 ) -> Result<(), AllocError> {
     for found in findings.found.as_slice() {
-        maker.put(alloc, Row::Program(found.verdict), found.shape)?;
+        maker.put(alloc, SuiteRow::Program(found.verdict), found.shape)?;
         let mut shape = found.shape;
         shape.end = End::Eep;
         if found.verdict != 0 {
-            maker.put(alloc, Row::ProgramBeforeEep(found.verdict), shape)?;
+            maker.put(alloc, SuiteRow::ProgramBeforeEep(found.verdict), shape)?;
         }
     }
     Ok(())

@@ -26,7 +26,7 @@ const LENGTH: usize = 12;
 
 /// Which bytes of a header a program reads, and which registers lead it there.
 #[derive(Clone, Copy, Debug)]
-pub struct Seen {
+pub struct HeaderReads {
     bytes: [bool; BYTES],
     bases: [bool; REGISTERS],
 }
@@ -40,10 +40,10 @@ fn start_of(region: Option<Region>) -> Option<usize> {
     }
 }
 
-impl Seen {
+impl HeaderReads {
     /// None.
-    fn none() -> Seen {
-        Seen {
+    fn none() -> HeaderReads {
+        HeaderReads {
             bytes: [false; BYTES],
             bases: [false; REGISTERS],
         }
@@ -98,8 +98,8 @@ impl Seen {
     }
 
     /// Which bytes a program reads.
-    pub fn of(program: &Accepted) -> Seen {
-        let mut seen = Seen::none();
+    pub fn of(program: &Accepted) -> HeaderReads {
+        let mut seen = HeaderReads::none();
         let slots = program.image().slots();
         for slot in 0..slots {
             if let Some(insn) = program.image().insn(slot) {

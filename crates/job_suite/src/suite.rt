@@ -5,14 +5,14 @@ ghost use Rattle.job_parts.specs.Statuses.{IsDoneWith};
 ghost use Rattle.job_parts.specs.Stops.{StopsBy};
 ghost use Rattle.node_parts.specs.Nodes.{windows_of};
 ghost use Rattle.spw.specs.Line.{marker_word};
-ghost use Rattle.job_suite.specs.SuiteFile.{HoldsNoNode, HoldsNode, IsBench, IsNoSuite, IsPlain, IsText, PrintsSuite};
-ghost use Rattle.job_suite.specs.Tables.{AreTableOf, IsNoChart};
-ghost use Rattle.job_suite.specs.Marks.{marked_line};
-ghost use Rattle.job_suite.specs.Trials.{AreTrials, lines_of, trial_line, with_lines};
+ghost use Rattle.job_suite.specs.SuiteFile.{HoldsNoSuiteNode, HoldsSuiteNode, IsBench, IsNoSuite, IsSuitePlainNode, IsSuiteText, PrintsSuite};
+ghost use Rattle.job_suite.specs.Tables.{AreTableOf, HasNoChart};
+ghost use Rattle.job_suite.specs.Marks.{suite_marked_line};
+ghost use Rattle.job_suite.specs.Trials.{AreTrials, trial_lines_of, trial_line, with_lines};
 
 use crate::bodies::body_rows;
 use crate::charted::Chart;
-use crate::drafts::Draft;
+use crate::candidates::Candidate;
 use crate::effects::effect_rows;
 use crate::headers::header_rows;
 use crate::index::{add_missing_row, add_missing_verdict, index_of, is_there};
@@ -20,7 +20,7 @@ use crate::judges::Judges;
 use crate::maker::{Area, Maker};
 use crate::pairs::{body_pairs, header_pairs};
 use crate::places::{beside_bank, no_bank, no_window};
-use crate::rows::{ROWS, Row, name_of};
+use crate::rows::{ROWS, SuiteRow, name_of};
 use crate::search::{Findings, look_at_bank, look_at_window, program_rows};
 use crate::tables::{asked_text, table_of};
 use crate::trials::{Bench, Trial};
@@ -33,8 +33,8 @@ use job_parts::factory::factory_program;
 use job_parts::faults::Fault;
 use job_parts::options::no_maps;
 use job_parts::printing::print_text;
-use job_parts::status::Status;
-use job_parts::stops::Halt;
+use job_parts::status::ExitStatus;
+use job_parts::stops::JobStop;
 use job_parts::storage::Files;
 use node_parts::NodeConfig;
 use rmap::Windows;
@@ -44,7 +44,7 @@ use std::io::Write;
 
 /// The node of which no file says anything, and the factory program.
 fn plain_node(alloc: Global) -> Result<ReadNode, AllocError>
-    ensures { IfOk result (λ made. IsPlain made.node made.program) }
+    ensures { IfOk result (λ made. IsSuitePlainNode made.node made.program) }
 {
     let node = OwnNode::plain(alloc, 1, no_maps())?;
     match factory_program(alloc, no_maps()) {
@@ -60,9 +60,9 @@ fn node_of<'a, F: Files>(
     words: &'a SuiteWords,
     files: &mut F,
 ) -> Result<ReadNode, Fault<'a>>
-    ensures held { IfOk result (λ made. HoldsNode F.reads (option_map string_bytes words.now.node)
+    ensures held { IfOk result (λ made. HoldsSuiteNode F.reads (option_map string_bytes words.now.node)
         files.old made.node made.program files.new) }
-    ensures none { IfErr result (HoldsNoNode F.reads (option_map string_bytes words.now.node)
+    ensures none { IfErr result (HoldsNoSuiteNode F.reads (option_map string_bytes words.now.node)
         files.old files.new) }
 {
     match &words.node {
@@ -91,7 +91,7 @@ fn before_program(
 }
 
 /// The drafts of all rows after the program.
-fn behind_program(
+fn after_program(
     alloc: Global,
     maker: &mut Maker,
     own: &OwnNode,
@@ -139,22 +139,22 @@ fn first_area(own: &OwnNode) -> Area {
 }
 
 /// The drafts of all rows, in order, and which verdicts the programs give.
-fn drafts_of(
+fn candidates_of(
     alloc: Global,
     words: &SuiteWords,
     bench: &Bench,
     chart: &Option<Chart>,
-) -> Result<(Vec<Draft>, Findings), AllocError> {
+) -> Result<(Vec<Candidate>, Findings), AllocError> {
     let own = &bench.judges.own;
     let mut maker = Maker::new(alloc, own.address(), words.seed);
     let area = first_area(own);
     let findings = findings_of(alloc, bench, &maker, own, chart)?;
     before_program(alloc, &mut maker, own, area)?;
-    behind_program(alloc, &mut maker, own, area)?;
+    after_program(alloc, &mut maker, own, area)?;
     program_rows(alloc, &mut maker, &findings)?;
     window_rows(alloc, &mut maker, &bench.judges)?;
     load_rows(alloc, &mut maker, &bench.judges)?;
-    Ok((maker.into_drafts(), findings))
+    Ok((maker.into_candidates(), findings))
 }
 
 /// Whether a name begins with a part of a list. An empty list has no parts.
@@ -171,7 +171,7 @@ fn is_left_out(name: &str, list: &str) -> bool {
 }
 
 /// Whether a row is one of those that the words name.
-fn is_wanted(alloc: Global, words: &SuiteWords, row: Row) -> Result<bool, AllocError> {
+fn is_wanted(alloc: Global, words: &SuiteWords, row: SuiteRow) -> Result<bool, AllocError> {
     let name = name_of(alloc, row)?;
     let name = name.as_str();
     Ok(name.starts_with(words.rows.as_str()) && !is_left_out(name, words.without.as_str()))
@@ -186,7 +186,7 @@ fn add_missing_verdicts(
     findings: &Findings,
 ) -> Result<(), AllocError> {
     for verdict in [0_u64, 3, 10, 12] {
-        if is_wanted(alloc, words, Row::Program(verdict))? {
+        if is_wanted(alloc, words, SuiteRow::Program(verdict))? {
             for slot in 0..4_u8 {
                 add_missing_verdict(text, findings, trials, slot, verdict)?;
             }
@@ -211,15 +211,15 @@ fn add_missing_rows(
 }
 
 /// Those drafts whose rows the words name.
-fn wanted_drafts(
+fn wanted_candidates(
     alloc: Global,
     words: &SuiteWords,
-    drafts: Vec<Draft>,
-) -> Result<Vec<Draft>, AllocError> {
+    candidates: Vec<Candidate>,
+) -> Result<Vec<Candidate>, AllocError> {
     let mut wanted = Vec::new(alloc);
-    for draft in drafts {
-        if is_wanted(alloc, words, draft.row)? {
-            wanted.push(draft)?;
+    for candidate in candidates {
+        if is_wanted(alloc, words, candidate.row)? {
+            wanted.push(candidate)?;
         }
     }
     Ok(wanted)
@@ -238,7 +238,7 @@ fn mark_of(end: End) -> &'static str
 /// Adds a line of a port, these digits and this word.
 fn add_marked(text: &mut String, port: u8, digits: &str, mark: &str) -> Result<(), AllocError>
     ensures { OnOk result
-        (string_bytes text.new ≡ string_bytes text.old ++ marked_line port digits.now mark.now) }
+        (string_bytes text.new ≡ string_bytes text.old ++ suite_marked_line port digits.now mark.now) }
 {
     writeln!(text, "{port} {digits} {mark}")
 }
@@ -264,8 +264,8 @@ fn add_lines(text: &mut String, alloc: Global, trials: &[Trial]) -> Result<(), A
 }
 
 /// The packet lines of these packets.
-fn lines_of(alloc: Global, trials: &[Trial]) -> Result<String, AllocError>
-    ensures { IfOk result (λ text. string_bytes text ≡ lines_of trials.now) }
+fn trial_lines_of(alloc: Global, trials: &[Trial]) -> Result<String, AllocError>
+    ensures { IfOk result (λ text. string_bytes text ≡ trial_lines_of trials.now) }
 {
     let mut text = String::new(alloc);
     add_lines(&mut text, alloc, trials)?;
@@ -313,7 +313,7 @@ fn text_of(
     findings: &Findings,
 ) -> Result<String, AllocError>
     ensures { IfOk result (λ text. words.now.index ≡ false
-        → string_bytes text ≡ lines_of trials.now) }
+        → string_bytes text ≡ trial_lines_of trials.now) }
 {
     if words.index {
         let mut text = index_of(alloc, address, trials)?;
@@ -321,7 +321,7 @@ fn text_of(
         add_missing_rows(&mut text, alloc, words, trials)?;
         Ok(text)
     } else {
-        lines_of(alloc, trials)
+        trial_lines_of(alloc, trials)
     }
 }
 
@@ -334,10 +334,10 @@ fn trials_of(
 ) -> Result<(Vec<Trial>, Findings), AllocError>
     ensures { IfOk result (λ made. AreTrials bench.now made.0.items) }
 {
-    let (drafts, findings) = drafts_of(alloc, words, bench, chart)?;
-    let drafts = wanted_drafts(alloc, words, drafts)?;
+    let (candidates, findings) = candidates_of(alloc, words, bench, chart)?;
+    let candidates = wanted_candidates(alloc, words, candidates)?;
     let askers = findings.askers(alloc)?;
-    let trials = bench.trials(alloc, drafts.as_slice(), askers.as_slice())?;
+    let trials = bench.trials(alloc, candidates.as_slice(), askers.as_slice())?;
     Ok((trials, findings))
 }
 
@@ -348,7 +348,7 @@ fn suite_text(
     bench: &Bench,
     chart: &Option<Chart>,
 ) -> Result<String, AllocError>
-    ensures { IfOk result (λ text. IsText words.now bench.now (string_bytes text)) }
+    ensures { IfOk result (λ text. IsSuiteText words.now bench.now (string_bytes text)) }
 {
     let (trials, findings) = trials_of(alloc, words, bench, chart)?;
     let address = bench.judges.own.address();
@@ -364,7 +364,7 @@ fn chart_of<'a>(
 ) -> Result<Option<Chart>, Fault<'a>>
     ensures ok { IfOk result (λ _. AreTableOf judges.now judges.now.own.sizes table.now
         (option_map string_bytes text.now)) }
-    ensures err { IfErr result (IsNoChart judges.now judges.now.own.sizes table.now
+    ensures err { IfErr result (HasNoChart judges.now judges.now.own.sizes table.now
         (option_map string_bytes text.now)) }
 {
     match (table, text) {
@@ -387,7 +387,7 @@ pub fn suite_file<'a, F: Files, W: Write>(
     words: &'a SuiteWords,
     files: &mut F,
     out: &mut W,
-) -> Result<Status, Halt<'a>>
+) -> Result<ExitStatus, JobStop<'a>>
     ensures done { IfOk result (IsDoneWith (PrintsSuite F.reads words.now files.old files.new
         (W.contents out.old) (W.contents out.new))) }
     ensures stops { IfErr result (StopsBy (IsNoSuite F.reads words.now files.old files.new)) }
@@ -399,5 +399,5 @@ pub fn suite_file<'a, F: Files, W: Write>(
     let chart = chart_of(alloc, &words.table, &table, &bench.judges)?;
     let text = suite_text(alloc, words, &bench, &chart)?;
     print_text(out, text.as_str())?;
-    Ok(Status::Done)
+    Ok(ExitStatus::Done)
 }

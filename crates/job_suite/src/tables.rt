@@ -1,12 +1,12 @@
 //! The table whose image programs of a node are.
 
 ghost use Rattle.std.specs.Prelude.{◌≡◌, IfErr, IfOk, MatchBool, MatchOption, All, Some, option_map, string_bytes};
-ghost use Rattle.job_config.specs.Reads.{Ends};
+ghost use Rattle.job_config.specs.Reads.{EndsForFault};
 ghost use Rattle.job_parts.specs.declared.node_codes.NodeCode.TheVariants.{Program as NoImage};
 ghost use Rattle.policy.specs.Compiled.{IsPortCompiled};
 ghost use Rattle.policy_table.specs.Policies.{WritesPolicy};
 ghost use Rattle.spw.specs.Line.{lines_of};
-ghost use Rattle.job_suite.specs.Tables.{IsImageOf, IsNoTableOf, IsTableFault, IsTableOf, ReadsAsked, ReadsNotAsked};
+ghost use Rattle.job_suite.specs.Tables.{IsSlotImage, IsNoTableOf, IsSuiteTableFault, AreSlotTables, ReadsSuiteTable, LacksSuiteTable};
 
 use crate::judges::Judges;
 use bpf::Image;
@@ -22,7 +22,7 @@ use std::alloc::{AllocError, Global};
 fn compiled(alloc: Global, text: &str, sizes: &MapSizes) -> Result<(Policy, Image), TextFault>
     ensures table { IfOk result (λ made. WritesPolicy (lines_of text.now) made.0) }
     ensures image { IfOk result (λ made. IsPortCompiled sizes.now made.0 made.1) }
-    ensures fault { IfErr result (IsTableFault sizes.now (lines_of text.now)) }
+    ensures fault { IfErr result (IsSuiteTableFault sizes.now (lines_of text.now)) }
 {
     let table = Policy::read(alloc, text)?;
     let image = compile_policy(alloc, &table, sizes)?;
@@ -31,7 +31,7 @@ fn compiled(alloc: Global, text: &str, sizes: &MapSizes) -> Result<(Policy, Imag
 
 /// That the program of a slot is not the image of a table.
 fn no_image<'a>(alloc: Global, slot: u8) -> Fault<'a>
-    ensures { Ends (Some NoImage) result }
+    ensures { EndsForFault (Some NoImage) result }
 {
     match format!(in alloc; "the table compiles to another image than that of slot {slot}") {
         Ok(place) => Fault::BadNode {
@@ -44,8 +44,8 @@ fn no_image<'a>(alloc: Global, slot: u8) -> Fault<'a>
 
 /// Whether the program of a slot is this image.
 fn is_image_of(judges: &Judges, image: &[u8], slot: u8) -> Result<bool, AllocError>
-    ensures { IfOk result (λ is. MatchBool is (IsImageOf judges.now image.now slot)
-        (¬ IsImageOf judges.now image.now slot)) }
+    ensures { IfOk result (λ is. MatchBool is (IsSlotImage judges.now image.now slot)
+        (¬ IsSlotImage judges.now image.now slot)) }
 {
     let own = judges.judge(slot).image().write()?;
     Ok(own.as_slice() == image)
@@ -54,8 +54,8 @@ fn is_image_of(judges: &Judges, image: &[u8], slot: u8) -> Result<bool, AllocErr
 /// The first of these slots whose program is not this image.
 fn other_slot(judges: &Judges, image: &[u8], slots: &[u8]) -> Result<Option<u8>, AllocError>
     ensures { IfOk result (λ other. MatchOption other
-        (All (IsImageOf judges.now image.now) slots.now)
-        (λ _. ¬ All (IsImageOf judges.now image.now) slots.now)) }
+        (All (IsSlotImage judges.now image.now) slots.now)
+        (λ _. ¬ All (IsSlotImage judges.now image.now) slots.now)) }
 {
     for slot in slots {
         if !is_image_of(judges, image, *slot)? {
@@ -78,7 +78,7 @@ pub fn table_of<'a>(
     judges: &Judges,
     sizes: &MapSizes,
 ) -> Result<Policy, Fault<'a>>
-    ensures table { IfOk result (IsTableOf judges.now sizes.now slots.now text.now) }
+    ensures table { IfOk result (AreSlotTables judges.now sizes.now slots.now text.now) }
     ensures none { IfErr result (IsNoTableOf judges.now sizes.now slots.now text.now) }
 {
     let (table, image) = match compiled(alloc, text, sizes) {
@@ -102,9 +102,9 @@ pub fn asked_text<'a, F: Files>(
     files: &mut F,
     name: Option<&'a str>,
 ) -> Result<Option<String>, Fault<'a>>
-    ensures text { IfOk result (λ text. ReadsAsked F.reads (option_map (λ n. n.now) name.entry)
+    ensures text { IfOk result (λ text. ReadsSuiteTable F.reads (option_map (λ n. n.now) name.entry)
         files.old (option_map string_bytes text) files.new) }
-    ensures none { IfErr result (λ fault. ReadsNotAsked F.reads
+    ensures none { IfErr result (λ fault. LacksSuiteTable F.reads
         (option_map (λ n. n.now) name.entry) files.old fault files.new) }
 {
     match name {

@@ -3,16 +3,16 @@
 ghost use Rattle.std.specs.Prelude.{◌≡◌, IfOk, IfSome, IsTrue, OnOk, Some, true};
 ghost use Rattle.job_suite.specs.Reach.{is_printed};
 ghost use Rattle.job_suite.specs.Rows.{wanted_of};
-ghost use Rattle.job_suite.specs.Checks.{GoesOn};
+ghost use Rattle.job_suite.specs.Checks.{PassesHeader};
 ghost use Rattle.job_suite.specs.Trials.{AreTrials, HasCome, IsMet, IsTrial};
 
 use crate::checks::placed;
-use crate::comings::{Came, fits};
-use crate::drafts::{Asker, Draft, Shape};
+use crate::comings::{PacketOutcome, fits};
+use crate::candidates::{SuiteInitiator, Candidate, Shape};
 use crate::judges::Judges;
-use crate::ranges::Range;
+use crate::ranges::MemoryRange;
 use crate::reach::is_printed;
-use crate::rows::{Row, Wanted};
+use crate::rows::{SuiteRow, Wanted};
 use rmap::{Command, Place, Windows, body_fault};
 use spw::Packet;
 use std::alloc::{AllocError, Global};
@@ -21,7 +21,7 @@ use std::alloc::{AllocError, Global};
 #[derive(Debug, Drop)]
 pub struct Trial {
     /// Its row.
-    pub row: Row,
+    pub row: SuiteRow,
     /// Its fields.
     pub shape: Shape,
     /// The packet.
@@ -36,7 +36,7 @@ pub struct Bench {
     /// The programs.
     pub judges: Judges,
     /// Where memory may change.
-    pub ranges: Vec<Range>,
+    pub ranges: Vec<MemoryRange>,
     /// Whether the boot window may be written.
     pub loads: bool,
 }
@@ -44,13 +44,13 @@ pub struct Bench {
 impl Bench {
     /// What the command of a packet with this place comes to.
     #[tactic(auto, using(crate::proofs::Meeting::verdict_of))]
-    fn judged(&self, alloc: Global, packet: &Packet, place: Place) -> Result<Came, AllocError>
-        requires { GoesOn self.now.windows packet.now place }
+    fn judged(&self, alloc: Global, packet: &Packet, place: Place) -> Result<PacketOutcome, AllocError>
+        requires { PassesHeader self.now.windows packet.now place }
         ensures { IfOk result (HasCome self.now packet.now) }
     {
         let command = Command::again(packet);
         let verdict = self.judges.verdict(alloc, &command, place)?;
-        Ok(Came::Judged(verdict, body_fault(&command)))
+        Ok(PacketOutcome::Judged(verdict, body_fault(&command)))
     }
 
     /// What a packet comes to.
@@ -58,12 +58,12 @@ impl Bench {
     /// # Errors
     ///
     /// An error if memory is refused.
-    pub fn come(&self, alloc: Global, packet: &Packet) -> Result<Came, AllocError>
+    pub fn come(&self, alloc: Global, packet: &Packet) -> Result<PacketOutcome, AllocError>
         ensures { IfOk result (HasCome self.now packet.now) }
     {
         match placed(packet, &self.windows) {
             Ok(place) => self.judged(alloc, packet, place),
-            Err(check) => Ok(Came::Stopped(check)),
+            Err(check) => Ok(PacketOutcome::Stopped(check)),
         }
     }
 
@@ -76,12 +76,12 @@ impl Bench {
     pub fn is_met(&self, alloc: Global, packet: &Packet, wanted: Wanted) -> Result<bool, AllocError>
         ensures { IfOk result (λ met. IsTrue met → IsMet self.now packet.now wanted) }
     {
-        let came = self.come(alloc, packet)?;
-        Ok(fits(came, wanted))
+        let received = self.come(alloc, packet)?;
+        Ok(fits(received, wanted))
     }
 
     /// Whether a packet meets its row, and may be printed.
-    fn is_trial(&self, alloc: Global, packet: &Packet, row: Row) -> Result<bool, AllocError>
+    fn is_trial(&self, alloc: Global, packet: &Packet, row: SuiteRow) -> Result<bool, AllocError>
         ensures met { IfOk result (λ is. IsTrue is → IsMet self.now packet.now (wanted_of row)) }
         ensures harmless { IfOk result (λ is. IsTrue is
             → is_printed self.now.ranges.items self.now.loads packet.now.bytes ≡ true) }
@@ -93,19 +93,19 @@ impl Bench {
     }
 
     /// The packet of a draft as this one asks, if it meets its row and may be printed.
-    fn trial(&self, alloc: Global, draft: &Draft, asker: Asker) -> Result<Option<Trial>, AllocError>
-        ensures { IfOk result (λ came. IfSome came (IsTrial self.now)) }
+    fn trial(&self, alloc: Global, candidate: &Candidate, asker: SuiteInitiator) -> Result<Option<Trial>, AllocError>
+        ensures { IfOk result (λ received. IfSome received (IsTrial self.now)) }
     {
-        let shape = draft.shape.asked_by(asker);
-        let bytes = shape.bytes(alloc, &draft.data)?;
+        let shape = candidate.shape.asked_by(asker);
+        let bytes = shape.bytes(alloc, &candidate.data)?;
         let Ok(packet) = Packet::new(bytes, shape.end) else {
             return Ok(None);
         };
-        if !self.is_trial(alloc, &packet, draft.row)? {
+        if !self.is_trial(alloc, &packet, candidate.row)? {
             return Ok(None);
         }
         Ok(Some(Trial {
-            row: draft.row,
+            row: candidate.row,
             shape,
             packet,
         }))
@@ -115,15 +115,15 @@ impl Bench {
     fn asked_trial(
         &self,
         alloc: Global,
-        draft: &Draft,
-        askers: &[Asker],
+        candidate: &Candidate,
+        askers: &[SuiteInitiator],
     ) -> Result<Option<Trial>, AllocError>
-        ensures { IfOk result (λ came. IfSome came (IsTrial self.now)) }
+        ensures { IfOk result (λ received. IfSome received (IsTrial self.now)) }
     {
         for asker in askers {
-            let came = self.trial(alloc, draft, *asker)?;
-            if came.is_some() {
-                return Ok(came);
+            let received = self.trial(alloc, candidate, *asker)?;
+            if received.is_some() {
+                return Ok(received);
             }
         }
         Ok(None)
@@ -134,16 +134,16 @@ impl Bench {
     fn any_trial(
         &self,
         alloc: Global,
-        draft: &Draft,
-        askers: &[Asker],
+        candidate: &Candidate,
+        askers: &[SuiteInitiator],
     ) -> Result<Option<Trial>, AllocError>
-        ensures { IfOk result (λ came. IfSome came (IsTrial self.now)) }
+        ensures { IfOk result (λ received. IfSome received (IsTrial self.now)) }
     {
-        let came = self.trial(alloc, draft, draft.shape.asker())?;
-        if came.is_some() {
-            return Ok(came);
+        let received = self.trial(alloc, candidate, candidate.shape.asker())?;
+        if received.is_some() {
+            return Ok(received);
         }
-        self.asked_trial(alloc, draft, askers)
+        self.asked_trial(alloc, candidate, askers)
     }
 
     /// Adds a packet.
@@ -158,12 +158,12 @@ impl Bench {
     }
 
     /// Adds a packet, if there is one.
-    fn add_any(&self, trials: &mut Vec<Trial>, came: Option<Trial>) -> Result<(), AllocError>
+    fn add_any(&self, trials: &mut Vec<Trial>, received: Option<Trial>) -> Result<(), AllocError>
         requires trials { AreTrials self.now trials.old.items }
-        requires came { IfSome came (IsTrial self.now) }
+        requires received { IfSome received (IsTrial self.now) }
         ensures { OnOk result (AreTrials self.now trials.new.items) }
     {
-        match came {
+        match received {
             Some(trial) => self.add(trials, trial),
             None => Ok(()),
         }
@@ -177,15 +177,15 @@ impl Bench {
     pub fn trials(
         &self,
         alloc: Global,
-        drafts: &[Draft],
-        askers: &[Asker],
+        candidates: &[Candidate],
+        askers: &[SuiteInitiator],
     ) -> Result<Vec<Trial>, AllocError>
         ensures { IfOk result (λ trials. AreTrials self.now trials.items) }
     {
         let mut trials = Vec::new(alloc);
-        for draft in drafts {
-            let came = self.any_trial(alloc, draft, askers)?;
-            self.add_any(&mut trials, came)?;
+        for candidate in candidates {
+            let received = self.any_trial(alloc, candidate, askers)?;
+            self.add_any(&mut trials, received)?;
         }
         Ok(trials)
     }

@@ -2,7 +2,7 @@
 
 use crate::judges::Judges;
 use crate::maker::{Maker, READ, RMW, WRITE, WRITE_VERIFIED};
-use crate::rows::Row;
+use crate::rows::SuiteRow;
 use initiator::{PART_SIZE, part_of};
 use rmap::{BOOT_WINDOW, LOAD_REGISTER, LOAD_RESULT_SIZE, STAGING_SIZE};
 use std::alloc::{AllocError, Global};
@@ -11,7 +11,7 @@ use std::alloc::{AllocError, Global};
 fn write(
     alloc: Global,
     maker: &mut Maker,
-    row: Row,
+    row: SuiteRow,
     address: u32,
     bytes: &[u8],
 ) -> Result<(), AllocError> {
@@ -22,25 +22,25 @@ fn write(
 }
 
 /// Adds a read of the boot window.
-fn read(maker: &mut Maker, row: Row, address: u32, length: u32) -> Result<(), AllocError> {
+fn read(maker: &mut Maker, row: SuiteRow, address: u32, length: u32) -> Result<(), AllocError> {
     let shape = maker.shape(READ, BOOT_WINDOW, address, length);
     maker.bare(row, shape)
 }
 
 /// Adds a read of the load result.
-fn read_result(maker: &mut Maker, row: Row) -> Result<(), AllocError> {
+fn read_result(maker: &mut Maker, row: SuiteRow) -> Result<(), AllocError> {
     read(maker, row, LOAD_REGISTER, LOAD_RESULT_SIZE)
 }
 
 /// Adds a control write of these bytes, and a read of the load result.
-fn control(alloc: Global, maker: &mut Maker, row: Row, bytes: [u8; 4]) -> Result<(), AllocError> {
+fn control(alloc: Global, maker: &mut Maker, row: SuiteRow, bytes: [u8; 4]) -> Result<(), AllocError> {
     write(alloc, maker, row, LOAD_REGISTER, &bytes)?;
     read_result(maker, row)
 }
 
 /// Commands to the staging.
 fn staging(alloc: Global, maker: &mut Maker) -> Result<(), AllocError> {
-    let row = Row::BootWindow;
+    let row = SuiteRow::BootWindow;
     read(maker, row, 0, 16)?;
     for address in [0, 8192, STAGING_SIZE - 4] {
         let shape = maker.shape(WRITE, BOOT_WINDOW, address, 4);
@@ -57,7 +57,7 @@ fn staging(alloc: Global, maker: &mut Maker) -> Result<(), AllocError> {
 
 /// Loads that are refused, whatever is staged, and a load of what was staged before.
 fn refused(alloc: Global, maker: &mut Maker) -> Result<(), AllocError> {
-    read_result(maker, Row::BootWindow)?;
+    read_result(maker, SuiteRow::BootWindow)?;
     for bytes in [
         [0, 1, 0, 8],
         [0, 0, 64, 1],
@@ -65,7 +65,7 @@ fn refused(alloc: Global, maker: &mut Maker) -> Result<(), AllocError> {
         [0, 0, 0, 0],
         [0, 0, 0, 64],
     ] {
-        control(alloc, maker, Row::BootWindow, bytes)?;
+        control(alloc, maker, SuiteRow::BootWindow, bytes)?;
     }
     Ok(())
 }
@@ -76,7 +76,7 @@ fn control_bytes(slot: u8, count: usize) -> [u8; 4] {
 }
 
 /// Writes an image to the staging.
-fn stage(alloc: Global, maker: &mut Maker, row: Row, image: &[u8]) -> Result<(), AllocError> {
+fn stage(alloc: Global, maker: &mut Maker, row: SuiteRow, image: &[u8]) -> Result<(), AllocError> {
     for number in 0..4_u16 {
         if PART_SIZE * usize::from(number) < image.len() {
             let address = 4096 * u32::from(number);
@@ -88,7 +88,7 @@ fn stage(alloc: Global, maker: &mut Maker, row: Row, image: &[u8]) -> Result<(),
 
 /// Loads of an image in which one byte is changed.
 fn altered(alloc: Global, maker: &mut Maker, image: &[u8]) -> Result<(), AllocError> {
-    let row = Row::BootWindow;
+    let row = SuiteRow::BootWindow;
     stage(alloc, maker, row, image)?;
     for place in [0_u8, 4, 5, 6, 8, 12, 16, 17, 20] {
         let byte = image.get(usize::from(place)).copied().unwrap_or(0);
@@ -107,8 +107,8 @@ fn altered(alloc: Global, maker: &mut Maker, image: &[u8]) -> Result<(), AllocEr
 
 /// Loads the program of a slot again.
 fn load(alloc: Global, maker: &mut Maker, slot: u8, image: &[u8]) -> Result<(), AllocError> {
-    stage(alloc, maker, Row::Load, image)?;
-    control(alloc, maker, Row::Load, control_bytes(slot, image.len()))
+    stage(alloc, maker, SuiteRow::Load, image)?;
+    control(alloc, maker, SuiteRow::Load, control_bytes(slot, image.len()))
 }
 
 /// The rows of the boot window.

@@ -4,15 +4,15 @@ ghost use Rattle.std.specs.Prelude.{◌≡◌, IfErr, IfOk, MatchBool, None, cod
 ghost use Rattle.clap.specs.Walk.{first_of};
 ghost use Rattle.job_parts.specs.Inputs.{AreInputs, input_value};
 ghost use Rattle.job_parts.specs.Matched.{app_of, fields_of, found_of, rows_of};
-ghost use Rattle.job_parts.specs.Options.{IsValueFault};
-ghost use Rattle.job_suite.specs.SuiteJob.{AreBeginnings, GivesRanges, GivesRows, GivesSeed, GivesTable, GivesWithout, IsTableWord, NamesSuite, RefusesRanges, RefusesRows, RefusesSeed, RefusesSuite, RefusesTable, RefusesWithout, WritesTable, first_read, name_of_table, node_read, second_read, suite_app};
+ghost use Rattle.job_parts.specs.Options.{IsOptionFault};
+ghost use Rattle.job_suite.specs.SuiteJob.{AreBeginnings, GivesRanges, GivesRows, GivesSeed, GivesTable, GivesWithout, IsTableWord, NamesSuite, RefusesRanges, RefusesRows, RefusesSeed, RefusesSuite, RefusesTable, RefusesWithout, WritesTable, suite_first_read, name_of_table, node_read, suite_second_read, suite_app};
 
-use crate::ranges::{Range, at_colon, ranges_written};
+use crate::ranges::{MemoryRange, at_colon, ranges_written};
 use crate::rows::is_beginning;
 use clap::{ArgMatches, Command};
 use job_config::sources::node_option;
 use job_packets::numbers::{number_written, slots_written};
-use job_parts::arguments::{flag, is_set, option, text_of};
+use job_parts::arguments::{flag, is_flag_set, option, text_of};
 use job_parts::inputs::{Content, InputFile, Inputs};
 use job_parts::usage::UsageFault;
 use std::alloc::{AllocError, Global};
@@ -42,7 +42,7 @@ pub struct SuiteWords {
     /// Whether the index is printed in place of the lines.
     pub index: bool,
     /// Where memory may change.
-    pub within: Vec<Range>,
+    pub within: Vec<MemoryRange>,
     /// Whether the boot window may be written.
     pub loads: bool,
 }
@@ -71,7 +71,7 @@ impl SuiteWords {
     /// What the job reads: the table, if one is named, and then the node's file, if there is one. That file names the
     /// files beside it.
     pub fn inputs(&self) -> Inputs<'_>
-        ensures { AreInputs (first_read self.now) (second_read self.now) None result }
+        ensures { AreInputs (suite_first_read self.now) (suite_second_read self.now) None result }
     {
         let node = self.node_input();
         match self.table_name() {
@@ -201,7 +201,7 @@ pub fn without_written(alloc: Global, found: &ArgMatches) -> Result<String, Usag
 #[tactic(auto, using(crate::proofs::TableWords::no_slots))]
 fn table_written(alloc: Global, word: &str) -> Result<TableWord, UsageFault>
     ensures ok { IfOk result (WritesTable word.now) }
-    ensures err { IfErr result (IsValueFault (IsTableWord word.now)) }
+    ensures err { IfErr result (IsOptionFault (IsTableWord word.now)) }
 {
     let (slots, name) = at_colon(word);
     if name.is_empty() {
@@ -237,7 +237,7 @@ pub fn table_of(alloc: Global, found: &ArgMatches) -> Result<Option<TableWord>, 
 /// # Errors
 ///
 /// Those of [`ranges_written`].
-pub fn within_of(alloc: Global, found: &ArgMatches) -> Result<Vec<Range>, UsageFault>
+pub fn within_of(alloc: Global, found: &ArgMatches) -> Result<Vec<MemoryRange>, UsageFault>
     ensures ok { IfOk result (λ ranges.
         GivesRanges (first_of (codes "within") (rows_of (found_of found.now))) ranges.items) }
     ensures err { IfErr result (RefusesRanges (rows_of (found_of found.now))) }
@@ -263,8 +263,8 @@ pub fn suite_job(alloc: Global, found: &ArgMatches) -> Result<SuiteWords, UsageF
     let without = without_written(alloc, found)?;
     let table = table_of(alloc, found)?;
     let within = within_of(alloc, found)?;
-    let loads = is_set(found, "loads");
-    let index = is_set(found, "index");
+    let loads = is_flag_set(found, "loads");
+    let index = is_flag_set(found, "index");
     Ok(SuiteWords {
         node,
         seed,

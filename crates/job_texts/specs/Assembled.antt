@@ -9,12 +9,12 @@ use Rattle.basm.specs.Relation.{IsText}
 use Rattle.basm.specs.declared.faults.AsmFault.{AsmFault}
 use Rattle.job_texts.specs.AsmJob.{parts_line}
 use Rattle.job_texts.specs.OneFile.{IsOneFile}
-use Rattle.job_parts.specs.Files.{Reads, Writes}
+use Rattle.job_parts.specs.Files.{ReadsFile, WritesFile}
 use Rattle.job_parts.specs.Reading.{TextUnread}
 use Rattle.job_parts.specs.declared.faults.Fault.{Fault}
 use Rattle.job_parts.specs.declared.faults.Fault.TheVariants.{CannotWrite, NoMemory, BadText}
 
-module _ {S : Type 0} (reads : Reads S) where
+module _ {S : Type 0} (reads : ReadsFile S) where
   -- the file was read, and gave UTF-8 that is a text of the program
   pub record HoldsText (before : S) (name : List ℕ) (p : Program) (after : S) : Type 0 where
     pub bytes : List ℕ
@@ -35,7 +35,7 @@ module _ {S : Type 0} (reads : Reads S) where
       TextUnread reads before name after fault
       ⊎ ((bad : AsmFault) × (fault ≡ BadText bad) × HoldsBadText before name after bad)
 
-module _ {S : Type 0} (reads : Reads S) (writes : Writes S) where
+module _ {S : Type 0} (reads : ReadsFile S) (writes : WritesFile S) where
   -- the text's file was read and gave a text of the program. Then the other was given the program's image; no other
   -- file was read or written
   pub record Assembled (before : S) (text image : List ℕ) (p : Program) (taken : Bool) (after : S) : Type 0 where

@@ -12,7 +12,7 @@ use Rattle.policy_table.specs.TextFaults.{text_fault_of}
 use Rattle.policy_table.specs.declared.faults.PolicyFault.{PolicyFault}
 use Rattle.policy_table.specs.declared.text_faults.TextFault.{TextFault}
 use Rattle.spw.specs.Line.{lines_of}
-use Rattle.job_parts.specs.Files.{Reads, Writes}
+use Rattle.job_parts.specs.Files.{ReadsFile, WritesFile}
 use Rattle.job_parts.specs.Reading.{TextUnread}
 use Rattle.job_texts.specs.OneFile.{IsOneFile}
 use Rattle.job_texts.specs.PolicyJob.{slots_line}
@@ -23,7 +23,7 @@ use Rattle.job_parts.specs.declared.faults.Fault.TheVariants.{CannotWrite, NoMem
 abbrev pub IsTableText : (text : List ℕ) → PolicyValue → Type 0
 IsTableText text policy = WritesPolicy (lines_of text) policy
 
-module _ {S : Type 0} (reads : Reads S) where
+module _ {S : Type 0} (reads : ReadsFile S) where
   -- the file was read, and gave UTF-8 that is this table
   pub record HoldsTable (before : S) (name : List ℕ) (policy : PolicyValue) (after : S) : Type 0 where
     pub bytes : List ℕ
@@ -38,7 +38,7 @@ module _ {S : Type 0} (reads : Reads S) where
     pub utf8 : IsUtf8 bytes
     pub found : TextFault
     pub bad : IsUnreadPolicy (lines_of bytes) found
-    pub told : fault ≡ text_fault_of found
+    pub reported : fault ≡ text_fault_of found
 
   -- the file gives no table
   abbrev pub IsNoTable : (before : S) (name : List ℕ) (after : S) → Fault → Type 0
@@ -60,7 +60,7 @@ module _ {S : Type 0} (reads : Reads S) where
       pub table : HoldsTable before name policy after
       pub found : TextFault
       pub faulty : IsPortFault (policy_fault sizes policy) found
-      pub told : fault ≡ text_fault_of found
+      pub reported : fault ≡ text_fault_of found
 
   -- the file gives no table that is compiled for maps of these sizes
   abbrev pub IsNoPolicy : (before : S) (name : List ℕ) (sizes : Maps) (after : S) → Fault → Type 0
@@ -68,7 +68,7 @@ module _ {S : Type 0} (reads : Reads S) where
       IsNoTable before name after fault
       ⊎ ((bad : PolicyFault) × (fault ≡ BadTable bad) × HoldsFaultyTable before name sizes after bad)
 
-module _ {S : Type 0} (reads : Reads S) (writes : Writes S) where
+module _ {S : Type 0} (reads : ReadsFile S) (writes : WritesFile S) where
   -- the table's file was read and gave a table that was compiled to the program. Then the other was given the program's
   -- image; no other file was read or written
   pub record Compiled (before : S) (table image : List ℕ) (sizes : Maps) (p : Program) (taken : Bool) (after : S) : Type

@@ -3,7 +3,7 @@ use Rattle.std.specs.Prelude.{◌≡◌, ◌⊎◌, ℕ, List, [], ◌∷◌, �
 use Rattle.clap.specs.Walk.{Row, first_of}
 use Rattle.clap.specs.Simple.{App, new_app, with_rule}
 use Rattle.bpf.specs.Program.{Program}
-use Rattle.job_parts.specs.Arguments.{file_rule, flag_rule, is_set, option_rule}
+use Rattle.job_parts.specs.Arguments.{file_rule, flag_rule, is_flag_set, option_rule}
 use Rattle.job_parts.specs.Options.{GivesSizes, IsBadList}
 use Rattle.job_texts.specs.declared.policies.PolicyWords.{PolicyWords}
 use Rattle.job_parts.specs.declared.usage.UsageFault.{UsageFault}
@@ -20,8 +20,8 @@ abbrev pub NamesPolicy : List Row → PolicyWords → Type 0
 NamesPolicy rows words = (first_of (codes "table") rows ≡ Some (string_bytes words.table))
     × (first_of (codes "image") rows ≡ Some (string_bytes words.image))
     × GivesSizes (first_of (codes "maps") rows) words.sizes
-    × (words.is_final ≡ is_set (codes "final") rows)
-    × (words.is_quiet ≡ is_set (codes "quiet") rows)
+    × (words.is_final ≡ is_flag_set (codes "final") rows)
+    × (words.is_quiet ≡ is_flag_set (codes "quiet") rows)
 
 -- matches without one of the files, or with a list of maps that is none
 abbrev pub SpoilsPolicy : List Row → Type 0

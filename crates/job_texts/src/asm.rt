@@ -18,8 +18,8 @@ use job_parts::arguments::{file, name_of};
 use job_parts::faults::Fault;
 use job_parts::inputs::{Content, InputFile, Inputs};
 use job_parts::programs::text_in;
-use job_parts::status::Status;
-use job_parts::stops::Halt;
+use job_parts::status::ExitStatus;
+use job_parts::stops::JobStop;
 use job_parts::storage::Files;
 use job_parts::usage::UsageFault;
 use std::alloc::{AllocError, Global};
@@ -110,7 +110,7 @@ pub fn assemble_file<'a, F: Files, W: Write>(
     image: &'a str,
     files: &mut F,
     out: &mut W,
-) -> Result<Status, Halt<'a>>
+) -> Result<ExitStatus, JobStop<'a>>
     ensures done { IfOk result (IsDoneWith
         (Assembles F.reads F.writes files.old text.now image.now files.new
         (W.contents out.old) (W.contents out.new))) }
@@ -123,5 +123,5 @@ pub fn assemble_file<'a, F: Files, W: Write>(
     let written = files.write(image, made.write()?.as_slice());
     written.map_err(|_| Fault::CannotWrite(image))?;
     print_parts(out, &made)?;
-    Ok(Status::Done)
+    Ok(ExitStatus::Done)
 }

@@ -3,10 +3,10 @@
 ghost use Rattle.std.specs.Prelude.{◌≡◌, ◌≢◌, IfErr, IfOk};
 ghost use Rattle.bver.specs.Justified.{IsJustified};
 ghost use Rattle.bver.specs.Refusals.{IsRefusal};
-ghost use Rattle.bver.specs.Told.{TellsKnown};
+ghost use Rattle.bver.specs.Reported.{ReportsKnown};
 ghost use Rattle.bver_form.specs.Form.{IsFormed};
 ghost use Rattle.bver_form.specs.declared.refusal.Refusal.TheVariants.{Memory};
-ghost use Rattle.bver.specs.Unjustified.{TellsUnjustified};
+ghost use Rattle.bver.specs.Unjustified.{ReportsUnjustified};
 ghost use Rattle.machine.specs.Runs.{IsSafe};
 
 use bpf::Image;
@@ -26,10 +26,10 @@ fn verified(
     ensures justified { IfOk result (λ program. IsJustified image.now sizes.now) }
     ensures safe { IfOk result (λ program. IsSafe image.now sizes.now) }
     ensures refused { IfErr result (IsRefusal image.now) }
-    ensures unjustified { IfErr result (TellsUnjustified image.now sizes.now) }
+    ensures unjustified { IfErr result (ReportsUnjustified image.now sizes.now) }
     ensures known { IfErr result
         (λ refused. IsFormed image.now → refused.code ≢ Memory
-        → TellsKnown image.now sizes.now known.new refused) }
+        → ReportsKnown image.now sizes.now known.new refused) }
 {
     first_faults();
     check(image)?;
@@ -57,10 +57,10 @@ pub fn checked(
     ensures justified { IfOk result (λ _. IsJustified image.now sizes.now) }
     ensures safe { IfOk result (λ _. IsSafe image.now sizes.now) }
     ensures refused { IfErr result (IsRefusal image.now) }
-    ensures unjustified { IfErr result (TellsUnjustified image.now sizes.now) }
+    ensures unjustified { IfErr result (ReportsUnjustified image.now sizes.now) }
     ensures known { IfErr result
         (λ refused. IsFormed image.now → refused.code ≢ Memory
-        → TellsKnown image.now sizes.now known.new refused) }
+        → ReportsKnown image.now sizes.now known.new refused) }
 {
     let _accepted = verified(alloc, image, sizes, known)?;
     Ok(())

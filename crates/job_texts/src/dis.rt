@@ -13,12 +13,12 @@ ghost use Rattle.job_parts.specs.declared.inputs.Content.TheVariants.{Image};
 use crate::listed::listed;
 use crate::needed::needed_line;
 use clap::{ArgMatches, Command};
-use job_parts::arguments::{flag, image_command, is_set, name_of};
+use job_parts::arguments::{flag, image_command, is_flag_set, name_of};
 use job_parts::inputs::{Content, Inputs};
 use job_parts::printing::print_text;
 use job_parts::programs::image_in;
-use job_parts::status::Status;
-use job_parts::stops::Halt;
+use job_parts::status::ExitStatus;
+use job_parts::stops::JobStop;
 use job_parts::storage::Files;
 use job_parts::usage::UsageFault;
 use std::alloc::{AllocError, Global};
@@ -66,7 +66,7 @@ pub fn dis_job(alloc: Global, found: &ArgMatches) -> Result<DisWords, UsageFault
     ensures err { IfErr result (Lacks (codes "image") (rows_of (found_of found.now))) }
 {
     let image = name_of(alloc, found, "image")?;
-    let slots = is_set(found, "slots");
+    let slots = is_flag_set(found, "slots");
     Ok(DisWords { image, slots })
 }
 
@@ -80,7 +80,7 @@ pub fn disassemble_file<'a, F: Files, W: Write>(
     words: &'a DisWords,
     files: &mut F,
     out: &mut W,
-) -> Result<Status, Halt<'a>>
+) -> Result<ExitStatus, JobStop<'a>>
     ensures done { IfOk result (IsDoneWith (Disassembles F.reads files.old words.now files.new
         (W.contents out.old) (W.contents out.new))) }
     ensures stops { IfErr result
@@ -92,5 +92,5 @@ pub fn disassemble_file<'a, F: Files, W: Write>(
     let maps = needed_line(alloc, "; ", &image)?;
     print_text(out, text.as_str())?;
     print_text(out, maps.as_str())?;
-    Ok(Status::Done)
+    Ok(ExitStatus::Done)
 }

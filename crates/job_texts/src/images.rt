@@ -32,7 +32,7 @@ impl ImageArgs {
     }
 
     /// What `why` reads: the image, or what is in its place.
-    pub fn told_inputs(&self) -> Inputs<'_>
+    pub fn why_inputs(&self) -> Inputs<'_>
         ensures { AreInputs (Some (input (string_bytes self.now.image) ImageOrText)) None None result }
     {
         Inputs::one(self.image.as_str(), Content::ImageOrText)

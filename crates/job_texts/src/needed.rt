@@ -139,14 +139,14 @@ fn refusal_on(
 fn enough_maps(
     alloc: Global,
     image: &Image,
-    told: Refused,
+    reported: Refused,
     known: &mut State,
 ) -> Result<Vec<(u16, MapKind)>, AllocError>
     requires { ¬ IsJustified image.now (listed_maps []) }
     ensures { IfOk result (λ maps. AreNeeded image.now maps.items) }
 {
     let mut maps = Vec::new(alloc);
-    let mut refused = told;
+    let mut refused = reported;
     for _list in 0..MAX_LISTS {
         if !meet(&mut maps, image, refused, known)? {
             break;

@@ -14,13 +14,13 @@ use crate::outputs::other_file;
 use bpf::Image;
 use bver::MapSizes;
 use clap::{ArgMatches, Command};
-use job_parts::arguments::{file, flag, is_set, name_of};
+use job_parts::arguments::{file, flag, is_flag_set, name_of};
 use job_parts::faults::Fault;
 use job_parts::inputs::{Content, InputFile, Inputs};
 use job_parts::options::{maps_option, sizes_of};
 use job_parts::programs::text_in;
-use job_parts::status::Status;
-use job_parts::stops::Halt;
+use job_parts::status::ExitStatus;
+use job_parts::stops::JobStop;
 use job_parts::storage::Files;
 use job_parts::usage::UsageFault;
 use policy::{Policy, compile_policy};
@@ -92,8 +92,8 @@ pub fn policy_job(alloc: Global, found: &ArgMatches) -> Result<PolicyWords, Usag
     let table = name_of(alloc, found, "table")?;
     let image = name_of(alloc, found, "image")?;
     let sizes = sizes_of(alloc, found)?;
-    let is_final = is_set(found, "final");
-    let is_quiet = is_set(found, "quiet");
+    let is_final = is_flag_set(found, "final");
+    let is_quiet = is_flag_set(found, "quiet");
     Ok(PolicyWords {
         table,
         image,
@@ -154,7 +154,7 @@ pub fn compile_file<'a, F: Files, W: Write>(
     words: &'a PolicyWords,
     files: &mut F,
     out: &mut W,
-) -> Result<Status, Halt<'a>>
+) -> Result<ExitStatus, JobStop<'a>>
     ensures done { IfOk result (IsDoneWith (CompilesTable F.reads F.writes files.old
         (string_bytes words.now.table) (string_bytes words.now.image) words.now.sizes files.new
         (W.contents out.old) (W.contents out.new))) }
@@ -168,5 +168,5 @@ pub fn compile_file<'a, F: Files, W: Write>(
     let written = files.write(image, made.write()?.as_slice());
     written.map_err(|_| Fault::CannotWrite(image))?;
     print_slots(out, &made)?;
-    Ok(Status::Done)
+    Ok(ExitStatus::Done)
 }

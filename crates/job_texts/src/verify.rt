@@ -2,7 +2,7 @@
 
 ghost use Rattle.std.specs.Prelude.{◌≡◌, IfErr, IfOk, OnOk, false};
 ghost use Rattle.job_parts.specs.Matched.{app_of, fields_of};
-ghost use Rattle.job_parts.specs.Reading.{IsNoProgram};
+ghost use Rattle.job_parts.specs.Reading.{HasNoProgram};
 ghost use Rattle.job_parts.specs.Printed.{Prints};
 ghost use Rattle.job_parts.specs.Statuses.{IsDoneWith};
 ghost use Rattle.job_parts.specs.Stops.{StopsBy};
@@ -13,8 +13,8 @@ use crate::images::verifying_command;
 use bver::MapSizes;
 use clap::Command;
 use job_parts::programs::program_in;
-use job_parts::status::Status;
-use job_parts::stops::Halt;
+use job_parts::status::ExitStatus;
+use job_parts::stops::JobStop;
 use job_parts::storage::Files;
 use std::alloc::{AllocError, Global};
 use std::io::{self, Write};
@@ -56,14 +56,14 @@ pub fn verify_file<'a, F: Files, W: Write>(
     sizes: MapSizes,
     files: &mut F,
     out: &mut W,
-) -> Result<Status, Halt<'a>>
+) -> Result<ExitStatus, JobStop<'a>>
     ensures done { IfOk result (IsDoneWith (Verifies F.reads files.old image.now sizes files.new
         (W.contents out.old) (W.contents out.new))) }
     ensures stops { IfErr result
-        (StopsBy (IsNoProgram F.reads files.old image.now sizes files.new)) }
+        (StopsBy (HasNoProgram F.reads files.old image.now sizes files.new)) }
     ensures quiet { IfErr result (StopsBy (λ _. W.contents out.new ≡ W.contents out.old)) }
 {
     let program = program_in(alloc, files, image, sizes)?;
     print_accepted(out, program.image().weight(), program.budget())?;
-    Ok(Status::Done)
+    Ok(ExitStatus::Done)
 }

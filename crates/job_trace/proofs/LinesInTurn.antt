@@ -5,10 +5,10 @@ use Rattle.sched.specs.History.{History}
 use Rattle.sched.specs.Looking.{Node}
 use Rattle.sched.specs.Worlds.{IsLawfulWorld, WorldValue}
 use Rattle.job_nodes.specs.Feeds.{IsFed}
-use Rattle.job_parts.specs.Turns.{AreTaken, StopsIn}
+use Rattle.job_parts.specs.Turns.{AreTaken, StopsInLines}
 use Rattle.job_parts.specs.declared.faults.Fault.{Fault}
 use Rattle.job_trace.specs.Judged.{Traces, TracesPacket}
-use Rattle.job_trace.specs.Traced.{IsCutShort, IsStuck, TracesLineFrom, TracesLines}
+use Rattle.job_trace.specs.Traced.{IsTraceCutShort, IsTraceStuck, TracesLineFrom, TracesLines}
 use Rattle.job_trace.specs.declared.trace.Tracing.{Tracing}
 use Rattle.std.specs.Io.KnownBytes.{Appends}
 
@@ -19,10 +19,10 @@ pub traces_none : (line : List ℕ) (a b : Tracing) (old : Option (List ℕ)) �
 traces_none line a b old same fed n h lawful = (h, subst (λ (w : WorldValue). IsLawfulWorld n h w) (sym same) lawful, (None, fed, (refl, refl)))
 
 -- a line that ended a packet, of which a text was made, and printed
-pub traces_came : (line : List ℕ) (port : ℕ) (packet : Cargo) (a b : Tracing) (text : List ℕ) (old new : Option (List ℕ))
+pub traces_received : (line : List ℕ) (port : ℕ) (packet : Cargo) (a b : Tracing) (text : List ℕ) (old new : Option (List ℕ))
     → IsFed line a.feeds b.feeds (Some (port, packet)) → TracesPacket port packet a.world b.world (Some []) (Some text) → Appends old new text
     → TracesLineFrom line a b old new
-traces_came line port packet a b text old new fed traced printed n h lawful =
+traces_received line port packet a b text old new fed traced printed n h lawful =
     let all = traced n h lawful in
     let own = subst (λ (t : List ℕ). Traces n h port packet all.0 t) (sym all.2.2) all.2.1 in
     (all.0, all.1, (Some (port, packet), fed, (text, own, printed)))
@@ -42,7 +42,7 @@ traces_all n h (line ∷ lines) a b old new lawful all =
 
 -- a line that was not traced cuts them short
 pub cuts_short : (n : Node) (h : History) (lines : List (List ℕ)) (a b : Tracing) (old new : Option (List ℕ)) (fault : Fault)
-    → IsLawfulWorld n h a.world → StopsIn TracesLineFrom IsStuck lines a b old new fault → IsCutShort n lines h a.feeds old new fault
+    → IsLawfulWorld n h a.world → StopsInLines TracesLineFrom IsTraceStuck lines a b old new fault → IsTraceCutShort n lines h a.feeds old new fault
 cuts_short n h lines a b old new fault lawful stop =
     let all = traces_all n h stop.done a stop.between old stop.printed lawful stop.all in
     record {

@@ -7,12 +7,12 @@ use Rattle.machine.specs.Runs.{call}
 use Rattle.machine.specs.State.{State}
 use Rattle.machine.specs.declared.calls.Question.{Question}
 use Rattle.machine.specs.Step.{Outcome, Ask, Trap, after_answer, insn_at, step, finds_maps, step_with}
-use Rattle.stepper.specs.declared.outcomes.Outcome.TheVariants as told
+use Rattle.stepper.specs.declared.outcomes.StepOutcome.TheVariants as reported
 use Rattle.stepper.specs.Machine.{MachineValue, state_of, step_of, IsOutcome, IsSameRun}
-use Rattle.job_trace.specs.Changes.{step_line}
-use Rattle.job_trace.specs.Runs.{IsStrideBy, On, Strides, line_before, lines_at, lines_of_step, lines_within, stride_of}
-use Rattle.job_trace.specs.declared.changes.Change.{Change}
-use Rattle.job_trace.specs.declared.changes.Change.TheVariants as changes
+use Rattle.job_trace.specs.Changes.{trace_step_line}
+use Rattle.job_trace.specs.Runs.{IsStrideBy, On, Strides, line_before, trace_lines_at, lines_of_step, lines_within, stride_of}
+use Rattle.job_trace.specs.declared.changes.StepChange.{StepChange}
+use Rattle.job_trace.specs.declared.changes.StepChange.TheVariants as changes
 use Rattle.stepper.proofs.Walking.{outcome_asks, choice}
 use Rattle.job_nodes.proofs.Simulating.{appends_both, appends_nothing}
 
@@ -22,8 +22,8 @@ use Rattle.job_nodes.proofs.Simulating.{appends_both, appends_nothing}
 
 -- a step that asks, and its answer
 pub strides_ask : QuestionsGoOn → (m paused after : MachineValue) (asked : Question) (answer : ℕ) (answers left : List ℕ) (made budget : ℕ) (insn : Insn)
-    → IsOutcome (step_of m) (told.Ask asked) (state_of m) (state_of paused) → answers ≡ answer ∷ left → state_of after ≡ after_answer (state_of paused) answer
-    → stride_of made budget m.slot insn answers (step_of m) ≡ On (changes.Told (call asked answer)) (state_of after) left
+    → IsOutcome (step_of m) (reported.Ask asked) (state_of m) (state_of paused) → answers ≡ answer ∷ left → state_of after ≡ after_answer (state_of paused) answer
+    → stride_of made budget m.slot insn answers (step_of m) ≡ On (changes.Answered (call asked answer)) (state_of after) left
 strides_ask goes_so m paused after asked answer answers left made budget insn outcome given goes_on =
     let asks = outcome_asks _ asked _ _ outcome in
     let no_trap : Ask asked asks.0 ≡ Trap → ⊥ = λ e. cc in
@@ -31,28 +31,28 @@ strides_ask goes_so m paused after asked answer answers left made budget insn ou
     let on_is = goes_so m.program m.header (state_of m) asked asks.0 bare in
     let reached : asks.0 answer ≡ state_of after = ap (λ (f : ℕ → State). f answer) on_is ∙ sym (goes_on ∙ ap (λ s. after_answer s answer) asks.2) in
     ap₂ (λ (xs : List ℕ) (o : Outcome). stride_of made budget m.slot insn xs o) given asks.1
-    ∙ ap (λ (t : State). On (changes.Told (call asked answer)) t left) reached
+    ∙ ap (λ (t : State). On (changes.Answered (call asked answer)) t left) reached
 
 -- ---- lines
 
 -- a step whose line was printed
-pub strides_by : (budget : ℕ) (m after : MachineValue) (answers : List ℕ) (old new : Option (List ℕ)) (insn : Insn) (change : Change) (left : Option (Bor (List ℕ)))
+pub strides_by : (budget : ℕ) (m after : MachineValue) (answers : List ℕ) (old new : Option (List ℕ)) (insn : Insn) (change : StepChange) (left : Option (Bor (List ℕ)))
     → insn_at m.program m.slot ≡ Some insn → IsStrideBy (stride_of (m.steps + 1) budget m.slot insn answers (step_of m)) change left (state_of after)
-    → Appends old new (step_line m.slot insn change) → Strides budget m after answers old new left
+    → Appends old new (trace_step_line m.slot insn change) → Strides budget m after answers old new left
 strides_by budget m after answers old new insn change None at is printed =
     λ (further : State → List ℕ → List ℕ).
-    let lines : lines_of_step further budget m answers ≡ step_line m.slot insn change =
-    ap (λ (o : Option Insn). lines_at further (m.steps + 1) budget m.slot answers o (step_of m)) at ∙ ap (line_before further m.slot insn) is in
+    let lines : lines_of_step further budget m answers ≡ trace_step_line m.slot insn change =
+    ap (λ (o : Option Insn). trace_lines_at further (m.steps + 1) budget m.slot answers o (step_of m)) at ∙ ap (line_before further m.slot insn) is in
     subst (λ (text : List ℕ). Appends old new text) (sym lines) printed
 strides_by budget m after answers old new insn change (Some left) at is printed =
     λ (further : State → List ℕ → List ℕ) (end : Option (List ℕ)) rest.
-    let lines : lines_of_step further budget m answers ≡ step_line m.slot insn change ++ further (state_of after) left.now =
-    ap (λ (o : Option Insn). lines_at further (m.steps + 1) budget m.slot answers o (step_of m)) at ∙ ap (line_before further m.slot insn) is in
+    let lines : lines_of_step further budget m answers ≡ trace_step_line m.slot insn change ++ further (state_of after) left.now =
+    ap (λ (o : Option Insn). trace_lines_at further (m.steps + 1) budget m.slot answers o (step_of m)) at ∙ ap (line_before further m.slot insn) is in
     subst (λ (text : List ℕ). Appends old end text) (sym lines) (appends_both old new end _ _ printed rest)
 
 -- the lines of a step of a run, and of what follows
 pub step_lines : (start m : MachineValue) (made budget : ℕ) (answers : List ℕ) (further : State → List ℕ → List ℕ) → IsSameRun start m → m.steps ≡ made
-    → lines_of_step further budget m answers ≡ lines_at further (suc made) budget m.slot answers (insn_at start.program m.slot) (step_with start.sizes start.program start.header (state_of m))
+    → lines_of_step further budget m answers ≡ trace_lines_at further (suc made) budget m.slot answers (insn_at start.program m.slot) (step_with start.sizes start.program start.header (state_of m))
 step_lines start m made budget answers further same steps =
     rw (same.program, same.header, same.sizes, steps, add-one) refl
 

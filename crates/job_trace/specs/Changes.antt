@@ -23,8 +23,8 @@ use Rattle.machine.specs.declared.values.Value.{Value}
 use Rattle.machine.specs.declared.values.Value.TheVariants.{Unset, Num, Ptr, Map}
 use Rattle.stepper.specs.Deeds.{stored_at}
 use Rattle.job_parts.specs.Replies.{reply_text}
-use Rattle.job_trace.specs.declared.changes.Change.{Change}
-use Rattle.job_trace.specs.declared.changes.Change.TheVariants as changes
+use Rattle.job_trace.specs.declared.changes.StepChange.{StepChange}
+use Rattle.job_trace.specs.declared.changes.StepChange.TheVariants as changes
 use Rattle.job_trace.specs.declared.lines.TheConstants.{COLUMN}
 
 -- ---- values
@@ -40,58 +40,58 @@ region_text Tail = codes "tail"
 region_text Stack = codes "stack"
 
 -- what a register holds: a pointer is its region and its offset there, with the sign
-abbrev pub value_text : Value → List ℕ
-value_text Unset = codes "unset"
-value_text (Num n) = number_text n
-value_text (Ptr region offset) = region_text region ++ signed_text offset
-value_text (Map index) = codes "map " ++ decimal index
+abbrev pub step_value_text : Value → List ℕ
+step_value_text Unset = codes "unset"
+step_value_text (Num n) = number_text n
+step_value_text (Ptr region offset) = region_text region ++ signed_text offset
+step_value_text (Map index) = codes "map " ++ decimal index
 
 -- ---- changes
 
 -- what a store of that number, of this size, to that place of the stack changed
-abbrev pub stored : Size → (place : Option ℕ) → (number : Option ℕ) → Change
+abbrev pub stored : Size → (place : Option ℕ) → (number : Option ℕ) → StepChange
 stored size None value = changes.Nothing
 stored size (Some place) None = changes.Nothing
 stored size (Some place) (Some n) = changes.Stored place size n
 
 -- the condition holds of two numbers
-abbrev pub holds_of : Condition → Width → Option ℕ → Option ℕ → Bool
-holds_of condition width None b = false
-holds_of condition width (Some a) None = false
-holds_of condition width (Some a) (Some b) = holds_words condition width a b
+abbrev pub condition_holds_of : Condition → Width → Option ℕ → Option ℕ → Bool
+condition_holds_of condition width None b = false
+condition_holds_of condition width (Some a) None = false
+condition_holds_of condition width (Some a) (Some b) = holds_words condition width a b
 
 -- the condition of a jump holds
 abbrev pub holds : Comparison → State → Bool
 holds comparison t =
-    holds_of comparison.condition comparison.width (number (t.registers comparison.dst)) (number (operand t comparison.src))
+    condition_holds_of comparison.condition comparison.width (number (t.registers comparison.dst)) (number (operand t comparison.src))
 
 -- where a jump at that slot led: the slot, if that is not the next one, and else whether the condition holds
-abbrev pub jumped : (holds : Bool) → (slot next : ℕ) → Change
+abbrev pub jumped : (holds : Bool) → (slot next : ℕ) → StepChange
 jumped taken slot next =
     if next == slot + 1 then (if taken then changes.Taken else changes.NotTaken) else changes.Jumped next
 
 -- what was written to that register, if there is one; the registers hold these values
-abbrev pub written : Option ℕ → (registers : ℕ → Value) → Change
+abbrev pub written : Option ℕ → (registers : ℕ → Value) → StepChange
 written None registers = changes.Nothing
 written (Some register) registers = changes.Written register (registers register)
 
 -- what an instruction at that slot changed, by the state after its step. A store and a jump change no register, so the
 -- state has their operands as before. The last three go on by no step of their own
-abbrev pub change_of : Insn → (slot : ℕ) → State → Change
-change_of (Alu op width dst src) slot t = changes.Written dst (t.registers dst)
-change_of (Negate width dst) slot t = changes.Written dst (t.registers dst)
-change_of (MoveSigned extension dst src) slot t = changes.Written dst (t.registers dst)
-change_of (ByteSwap swap bits dst) slot t = changes.Written dst (t.registers dst)
-change_of (Load size dst place) slot t = changes.Written dst (t.registers dst)
-change_of (Store size place src) slot t =
+abbrev pub step_change_of : Insn → (slot : ℕ) → State → StepChange
+step_change_of (Alu op width dst src) slot t = changes.Written dst (t.registers dst)
+step_change_of (Negate width dst) slot t = changes.Written dst (t.registers dst)
+step_change_of (MoveSigned extension dst src) slot t = changes.Written dst (t.registers dst)
+step_change_of (ByteSwap swap bits dst) slot t = changes.Written dst (t.registers dst)
+step_change_of (Load size dst place) slot t = changes.Written dst (t.registers dst)
+step_change_of (Store size place src) slot t =
     stored size (stored_at (t.registers place.base) (size_bytes size) place.offset) (number (operand t src))
-change_of (Jump comparison offset) slot t = jumped (holds comparison t) slot t.slot
-change_of (Goto distance) slot t = changes.Jumped t.slot
-change_of (Wide dst value) slot t = changes.Written dst (t.registers dst)
-change_of (LoadMap dst index) slot t = changes.Written dst (t.registers dst)
-change_of (LoadAddress dst address) slot t = changes.Nothing
-change_of (Call callee called) slot t = changes.Nothing
-change_of Exit slot t = changes.Nothing
+step_change_of (Jump comparison offset) slot t = jumped (holds comparison t) slot t.slot
+step_change_of (Goto distance) slot t = changes.Jumped t.slot
+step_change_of (Wide dst value) slot t = changes.Written dst (t.registers dst)
+step_change_of (LoadMap dst index) slot t = changes.Written dst (t.registers dst)
+step_change_of (LoadAddress dst address) slot t = changes.Nothing
+step_change_of (Call callee called) slot t = changes.Nothing
+step_change_of Exit slot t = changes.Nothing
 
 -- the offsets of this many bytes of the stack from that place on: the first and the last, or the one
 abbrev pub stack_text : (place bytes : ℕ) → List ℕ
@@ -101,14 +101,14 @@ stack_text place bytes =
     else codes "stack-" ++ decimal (STACK_SIZE - place) ++ codes "..-" ++ decimal (STACK_SIZE + 1 - place - bytes)
 
 -- the text of a change. Bytes that are stored are in their order in memory, the lowest of the number first
-abbrev pub change_text : Change → List ℕ
-change_text (changes.Written register value) = register_text register ++ codes " = " ++ value_text value
+abbrev pub change_text : StepChange → List ℕ
+change_text (changes.Written register value) = register_text register ++ codes " = " ++ step_value_text value
 change_text (changes.Stored place size n) =
     stack_text place (size_bytes size) ++ codes " = " ++ reply_text (take (size_bytes size) (to_le_bytes w64 n))
 change_text changes.NotTaken = codes "not taken"
 change_text changes.Taken = codes "taken"
 change_text (changes.Jumped slot) = codes "to " ++ decimal slot
-change_text (changes.Told call) =
+change_text (changes.Answered call) =
     codes "map " ++ decimal call.question.map ++ codes " cell " ++ decimal call.question.key ++ codes ": told "
     ++ number_text call.answer
 change_text (changes.Ended verdict steps budget) =
@@ -130,9 +130,9 @@ abbrev pub column_text : List ℕ → List ℕ
 column_text text = codes "    " ++ text ++ blanks (COLUMN - length text) ++ codes " "
 
 -- a text in a column, and after it a change
-abbrev pub change_line : List ℕ → Change → List ℕ
+abbrev pub change_line : List ℕ → StepChange → List ℕ
 change_line text change = column_text text ++ change_text change ++ 10 ∷ []
 
 -- the line of a step: the instruction at its slot, and in a column of its own what it changed
-abbrev pub step_line : (slot : ℕ) → Insn → Change → List ℕ
-step_line slot insn change = change_line (place_text slot insn) change
+abbrev pub trace_step_line : (slot : ℕ) → Insn → StepChange → List ℕ
+trace_step_line slot insn change = change_line (place_text slot insn) change

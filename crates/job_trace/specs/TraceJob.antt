@@ -4,7 +4,7 @@ use Rattle.clap.specs.Simple.{App}
 use Rattle.bpf.specs.Program.{Program}
 use Rattle.machine.specs.State.{entry_state}
 use Rattle.sched.specs.History.{Open}
-use Rattle.sched.specs.Looking.{Node, header_in, program_of, slot_of_packet}
+use Rattle.sched.specs.Looking.{Node, seen_header_in, program_of, slot_of_packet}
 use Rattle.job_config.specs.NodeLines.{node_lines_app}
 use Rattle.job_trace.specs.Runs.{lines_within}
 
@@ -20,7 +20,7 @@ taken_line port slot generation =
 -- the lines of the run of a program that judges an open command of a port, with the answers that its helpers had
 abbrev pub run_lines_of : Program → Node → (port : ℕ) → Open → List ℕ
 run_lines_of program n port o =
-    lines_within program (header_in o.packet) n.sizes program.budget program.budget 0 (entry_state port) o.answers
+    lines_within program (seen_header_in o.packet) n.sizes program.budget program.budget 0 (entry_state port) o.answers
 
 -- the same of the program that was published for its slot when it was taken
 abbrev pub run_lines : Node → (port : ℕ) → Open → List ℕ

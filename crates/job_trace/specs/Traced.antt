@@ -8,13 +8,13 @@ use Rattle.sched.specs.Worlds.{IsLawfulWorld, WorldValue}
 use Rattle.job_config.specs.declared.node_lines.NodeLines.{NodeLines}
 use Rattle.job_nodes.specs.Beginning.{IsScheduled, IsUnscheduled, RefusesContents}
 use Rattle.job_nodes.specs.Feeds.{IsFed, IsNotFed}
-use Rattle.job_parts.specs.Files.{Reads}
+use Rattle.job_parts.specs.Files.{ReadsFile}
 use Rattle.job_parts.specs.Stops.{fault_at}
-use Rattle.job_parts.specs.Turns.{Sees, SeesEnd}
+use Rattle.job_parts.specs.Turns.{SeesPrinted, SeesEnd}
 use Rattle.job_parts.specs.declared.faults.Fault.{Fault}
 use Rattle.job_parts.specs.declared.faults.Fault.TheVariants.{NoMemory as OutOfMemory}
-use Rattle.job_parts.specs.declared.status.Status.{Status}
-use Rattle.job_parts.specs.declared.status.Status.TheVariants.{Done, Failed, Misused}
+use Rattle.job_parts.specs.declared.status.ExitStatus.{ExitStatus}
+use Rattle.job_parts.specs.declared.status.ExitStatus.TheVariants.{Done, Failed, Misused}
 use Rattle.job_parts.specs.declared.stops.LineEnd.{LineEnd}
 use Rattle.job_parts.specs.declared.stops.LineEnd.TheVariants.{Bad, NoMemory}
 use Rattle.job_trace.specs.Judged.{IsTraced}
@@ -26,7 +26,7 @@ use Rattle.job_trace.specs.declared.trace.Tracing.{Tracing}
 abbrev pub TracesLine : Node → (line : List ℕ) → (before : History) → (held : List (List ℕ)) → (later : History)
     → (left : List (List ℕ)) → (old new : Option (List ℕ)) → Type 0
 TracesLine n line h held later left old new =
-    (came : Option (ℕ × Cargo)) × IsFed line held left came × IsTraced n h came later old new
+    (received : Option (ℕ × Cargo)) × IsFed line held left received × IsTraced n h received later old new
 
 -- the lines were traced in turn
 abbrev pub TracesLines : Node → List (List ℕ) → (before : History) → (held : List (List ℕ)) → (later : History)
@@ -40,11 +40,11 @@ TracesLines n (line ∷ lines) h held later left old new =
 -- that. The ports hold those bytes then
 abbrev pub IsUntraced : List ℕ → (held left : List (List ℕ)) → LineEnd → Type 0
 IsUntraced line held left (Bad fault) = IsNotFed line held left fault
-IsUntraced line held left NoMemory = (came : ℕ × Cargo) × IsFed line held left (Some came)
+IsUntraced line held left NoMemory = (received : ℕ × Cargo) × IsFed line held left (Some received)
 
 -- the lines before one were traced. That one, which is counted from 1, ends the job with this fault: nothing was
 -- printed of it
-pub record IsCutShort (n : Node) (lines : List (List ℕ)) (h : History) (held : List (List ℕ)) (old new : Option (List ℕ))
+pub record IsTraceCutShort (n : Node) (lines : List (List ℕ)) (h : History) (held : List (List ℕ)) (old new : Option (List ℕ))
     (fault : Fault) : Type 0 where
   pub front : List (List ℕ)
   pub line : List ℕ
@@ -61,18 +61,18 @@ pub record IsCutShort (n : Node) (lines : List (List ℕ)) (h : History) (held :
 -- ---- a line
 
 -- after each history whose world is the old world, the line was traced
-abbrev pub TracesLineFrom : List ℕ → Sees Tracing
+abbrev pub TracesLineFrom : List ℕ → SeesPrinted Tracing
 TracesLineFrom line before after old new =
     (n : Node) (h : History) → IsLawfulWorld n h before.world
     → (later : History) × IsLawfulWorld n later after.world × TracesLine n line h before.feeds later after.feeds old new
 
 -- the line was not traced, and nothing was printed
-abbrev pub IsStuck : List ℕ → SeesEnd Tracing
-IsStuck line before after old new end = IsUntraced line before.feeds after.feeds end × (new ≡ old)
+abbrev pub IsTraceStuck : List ℕ → SeesEnd Tracing
+IsTraceStuck line before after old new end = IsUntraced line before.feeds after.feeds end × (new ≡ old)
 
 -- ---- the whole job
 
-module _ {S : Type 0} (reads : Reads S) (args : NodeLines) where
+module _ {S : Type 0} (reads : ReadsFile S) (args : NodeLines) where
   -- each line of the file was traced on that node, from its beginning on, and what became of its
   -- packets is lawful
   pub record TracesFile (before after : S) (old new : Option (List ℕ)) : Type 0 where
@@ -86,20 +86,20 @@ module _ {S : Type 0} (reads : Reads S) (args : NodeLines) where
     pub all : TracesLines node (lines_of text) Start (replicate node.ports []) later left old new
 
   -- what `trace` reads and prints if no fault ends it, with its exit status: 2 if a bank begins with bytes
-  abbrev pub DoesTrace : (before after : S) → (old new : Option (List ℕ)) → Status → Type 0
+  abbrev pub DoesTrace : (before after : S) → (old new : Option (List ℕ)) → ExitStatus → Type 0
   DoesTrace before after old new Done = TracesFile before after old new
   DoesTrace before after old new Failed = ⊥
   DoesTrace before after old new Misused = RefusesContents reads args before after old new
 
   -- the lines of the file before one were traced on that node, and that one was not
-  pub record StopsShort (before after : S) (old new : Option (List ℕ)) (fault : Fault) : Type 0 where
+  pub record StopsTraceShort (before after : S) (old new : Option (List ℕ)) (fault : Fault) : Type 0 where
     pub text : List ℕ
     pub node : Node
     pub scheduled : IsScheduled reads args before text node after
-    pub cut_short : IsCutShort node (lines_of text) Start (replicate node.ports []) old new fault
+    pub cut_short : IsTraceCutShort node (lines_of text) Start (replicate node.ports []) old new fault
 
   -- lines and node were read, and memory was refused to what takes the lines
-  pub record LacksRoom (before after : S) (fault : Fault) : Type 0 where
+  pub record LacksTraceRoom (before after : S) (fault : Fault) : Type 0 where
     pub text : List ℕ
     pub node : Node
     pub scheduled : IsScheduled reads args before text node after
@@ -108,5 +108,5 @@ module _ {S : Type 0} (reads : Reads S) (args : NodeLines) where
   -- why not all lines were traced: nothing was printed if lines or node cannot be read
   abbrev pub IsNotTraced : (before after : S) → (old new : Option (List ℕ)) → Fault → Type 0
   IsNotTraced before after old new fault =
-      ((new ≡ old) × (IsUnscheduled reads args before after fault ⊎ LacksRoom before after fault))
-      ⊎ StopsShort before after old new fault
+      ((new ≡ old) × (IsUnscheduled reads args before after fault ⊎ LacksTraceRoom before after fault))
+      ⊎ StopsTraceShort before after old new fault

@@ -4,7 +4,7 @@ ghost use Rattle.std.specs.Prelude.{◌≡◌, OnOk};
 ghost use Rattle.stepper.specs.Machine.{state_of};
 ghost use Rattle.bpf_parts.specs.Sizes.{size_bytes};
 ghost use Rattle.job_parts.specs.Printed.{Prints};
-ghost use Rattle.job_trace.specs.Changes.{change_of, change_text, holds, jumped, number_text, region_text, stack_text, value_text, written};
+ghost use Rattle.job_trace.specs.Changes.{step_change_of, change_text, holds, jumped, number_text, region_text, stack_text, step_value_text, written};
 
 use bpf_insn::{Comparison, Insn, MemoryOperand, Operand, Register, Size};
 use job_parts::replies::print_bytes;
@@ -14,7 +14,7 @@ use stepper::Machine;
 
 /// What a step of a run changed.
 #[derive(Clone, Copy, Debug, PartialEq, Eq)]
-pub enum Change {
+pub enum StepChange {
     /// A register holds a value.
     Written(Register, Value),
     /// The low bytes of a number are in the stack, from this place on.
@@ -26,7 +26,7 @@ pub enum Change {
     /// A jump goes on at this slot.
     Jumped(u32),
     /// A helper got its answer.
-    Told(Call),
+    Answered(Call),
     /// The program ended with this verdict, after this many steps of this budget.
     Ended(u64, u32, u32),
     /// Nothing that is printed.
@@ -34,15 +34,15 @@ pub enum Change {
 }
 
 /// What a store changed, by the registers after it.
-fn stored(machine: &Machine<'_>, size: Size, place: &MemoryOperand, src: &Operand) -> Change
-    ensures { result ≡ change_of (Insn.Store size place.now src.now) 0 (state_of machine.now) }
+fn stored(machine: &Machine<'_>, size: Size, place: &MemoryOperand, src: &Operand) -> StepChange
+    ensures { result ≡ step_change_of (Insn.Store size place.now src.now) 0 (state_of machine.now) }
 {
     match machine.stored(size, place) {
         Some(place) => match machine.operand(src) {
-            Value::Num(number) => Change::Stored(place, size, number),
-            Value::Unset | Value::Ptr { .. } | Value::Map(_) => Change::Nothing,
+            Value::Num(number) => StepChange::Stored(place, size, number),
+            Value::Unset | Value::Ptr { .. } | Value::Map(_) => StepChange::Nothing,
         },
-        None => Change::Nothing,
+        None => StepChange::Nothing,
     }
 }
 
@@ -60,41 +60,41 @@ fn holds(machine: &Machine<'_>, comparison: &Comparison) -> bool
 }
 
 /// Where a jump at a slot led, by whether its condition holds, and the slot of the next instruction.
-fn jumped(holds: bool, slot: u32, next: u32) -> Change
+fn jumped(holds: bool, slot: u32, next: u32) -> StepChange
     ensures { result ≡ jumped holds slot next }
 {
     if u64::from(next) == u64::from(slot) + 1 {
         if holds {
-            Change::Taken
+            StepChange::Taken
         } else {
-            Change::NotTaken
+            StepChange::NotTaken
         }
     } else {
-        Change::Jumped(next)
+        StepChange::Jumped(next)
     }
 }
 
 /// What was written to that register, if there is one.
-fn written(machine: &Machine<'_>, register: Option<Register>) -> Change
+fn written(machine: &Machine<'_>, register: Option<Register>) -> StepChange
     ensures { result ≡ written register (state_of machine.now).registers }
 {
     match register {
-        Some(register) => Change::Written(register, machine.register(register)),
-        None => Change::Nothing,
+        Some(register) => StepChange::Written(register, machine.register(register)),
+        None => StepChange::Nothing,
     }
 }
 
 /// What the instruction at a slot changed, if the machine is after its step.
-pub fn change_of(insn: &Insn, slot: u32, machine: &Machine<'_>) -> Change
-    ensures { result ≡ change_of insn.now slot (state_of machine.now) }
+pub fn step_change_of(insn: &Insn, slot: u32, machine: &Machine<'_>) -> StepChange
+    ensures { result ≡ step_change_of insn.now slot (state_of machine.now) }
 {
     match *insn {
         Insn::Store { size, place, src } => stored(machine, size, &place, &src),
         Insn::Jump { comparison, .. } => {
             jumped(holds(machine, &comparison), slot, machine.slot())
         }
-        Insn::Goto { .. } => Change::Jumped(machine.slot()),
-        Insn::LoadAddress { .. } | Insn::Call { .. } | Insn::Exit => Change::Nothing,
+        Insn::Goto { .. } => StepChange::Jumped(machine.slot()),
+        Insn::LoadAddress { .. } | Insn::Call { .. } | Insn::Exit => StepChange::Nothing,
         Insn::Alu { .. }
         | Insn::Negate { .. }
         | Insn::MoveSigned { .. }
@@ -129,7 +129,7 @@ fn region_name(region: Region) -> &'static str
 
 /// Prints what a register holds.
 fn print_value<W: Write>(out: &mut W, value: Value) -> io::Result<()>
-    ensures { OnOk result (Prints W.contents out.old out.new (value_text value)) }
+    ensures { OnOk result (Prints W.contents out.old out.new (step_value_text value)) }
 {
     match value {
         Value::Unset => write!(out, "unset"),
@@ -157,7 +157,7 @@ fn print_stack<W: Write>(out: &mut W, place: usize, bytes: usize) -> io::Result<
 /// Prints what a store changed.
 fn print_stored<W: Write>(out: &mut W, place: usize, size: Size, number: u64) -> io::Result<()>
     ensures { OnOk result (Prints W.contents out.old out.new
-        (change_text (Change.Stored place size number))) }
+        (change_text (StepChange.Stored place size number))) }
 {
     let bytes = number.to_le_bytes();
     print_stack(out, place, size.bytes())?;
@@ -170,29 +170,29 @@ fn print_stored<W: Write>(out: &mut W, place: usize, size: Size, number: u64) ->
 /// # Errors
 ///
 /// The error of `out`, if it does not take all of the text.
-pub fn print_change<W: Write>(out: &mut W, change: Change) -> io::Result<()>
+pub fn print_change<W: Write>(out: &mut W, change: StepChange) -> io::Result<()>
     ensures { OnOk result (Prints W.contents out.old out.new (change_text change)) }
 {
     match change {
-        Change::Written(register, value) => {
+        StepChange::Written(register, value) => {
             write!(out, "{register} = ")?;
             print_value(out, value)
         }
-        Change::Stored(place, size, number) => print_stored(out, place, size, number),
-        Change::NotTaken => write!(out, "not taken"),
-        Change::Taken => write!(out, "taken"),
-        Change::Jumped(slot) => write!(out, "to {slot}"),
-        Change::Told(call) => {
+        StepChange::Stored(place, size, number) => print_stored(out, place, size, number),
+        StepChange::NotTaken => write!(out, "not taken"),
+        StepChange::Taken => write!(out, "taken"),
+        StepChange::Jumped(slot) => write!(out, "to {slot}"),
+        StepChange::Answered(call) => {
             let (map, key) = (call.question.map, call.question.key);
             write!(out, "map {map} cell {key}: told ")?;
             print_number(out, call.answer)
         }
-        Change::Ended(verdict, steps, budget) => {
+        StepChange::Ended(verdict, steps, budget) => {
             write!(
                 out,
                 "verdict {verdict} after {steps} steps, budget {budget}"
             )
         }
-        Change::Nothing => Ok(()),
+        StepChange::Nothing => Ok(()),
     }
 }

@@ -43,10 +43,10 @@ fn answer_helpers(alloc: Global, world: &mut World, port: u8) -> Result<Vec<u64>
             return Ok(answers);
         };
         // Only memory can be refused to it: the program asks that helper.
-        let Ok(Outcome::Told(told)) = step(alloc, world, event) else {
+        let Ok(Outcome::Told(reported)) = step(alloc, world, event) else {
             return Err(AllocError);
         };
-        answers.push(told)?;
+        answers.push(reported)?;
     }
     Ok(answers)
 }

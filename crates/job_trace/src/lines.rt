@@ -2,9 +2,9 @@
 
 ghost use Rattle.std.specs.Prelude.{◌≡◌, IfOk, OnOk, Some, replicate, string_bytes};
 ghost use Rattle.job_parts.specs.Printed.{Prints};
-ghost use Rattle.job_trace.specs.Changes.{blanks, change_line, column_text, place_text, step_line};
+ghost use Rattle.job_trace.specs.Changes.{blanks, change_line, column_text, place_text, trace_step_line};
 
-use crate::changes::{Change, print_change};
+use crate::changes::{StepChange, print_change};
 use bpf_insn::Insn;
 use std::alloc::{AllocError, Global};
 use std::fmt;
@@ -63,7 +63,7 @@ fn print_column<W: Write>(out: &mut W, text: &str) -> io::Result<()>
 }
 
 /// Prints a line: a text in the column, and after it what a step changed.
-fn print_line<W: Write>(out: &mut W, text: &str, change: Change) -> io::Result<()>
+fn print_line<W: Write>(out: &mut W, text: &str, change: StepChange) -> io::Result<()>
     ensures { OnOk result
         (Prints W.contents out.old out.new (change_line text.now change)) }
 {
@@ -82,10 +82,10 @@ pub fn print_step<W: Write>(
     out: &mut W,
     slot: u32,
     insn: &Insn,
-    change: Change,
+    change: StepChange,
 ) -> io::Result<()>
     ensures { OnOk result
-        (Prints W.contents out.old out.new (step_line slot insn.now change)) }
+        (Prints W.contents out.old out.new (trace_step_line slot insn.now change)) }
 {
     let text = place_text(alloc, slot, insn)?;
     print_line(out, text.as_str(), change)

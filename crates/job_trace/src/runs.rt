@@ -5,13 +5,13 @@ ghost use Rattle.stepper.specs.Machine.{IsSameRun, state_of, step_of};
 ghost use Rattle.job_parts.specs.Printed.{Prints};
 ghost use Rattle.job_trace.specs.Runs.{IsStride, Strides, lines_within, stride_of};
 
-use crate::changes::{Change, change_of};
+use crate::changes::{StepChange, step_change_of};
 use crate::lines::print_step;
 use bpf_insn::Insn;
 use machine::{Call, questions_go_on};
 use std::alloc::Global;
 use std::io::{self, Write};
-use stepper::{Machine, Outcome};
+use stepper::{Machine, StepOutcome};
 
 /// Makes the step of an instruction. Returns what it changed, and the answers that are left, or `None` in their place
 /// if the run has its verdict. Returns `None` if it is a trap, or a question without an answer.
@@ -20,7 +20,7 @@ fn stride<'b>(
     insn: &Insn,
     answers: &'b [u64],
     budget: u32,
-) -> Option<(Change, Option<&'b [u64]>)>
+) -> Option<(StepChange, Option<&'b [u64]>)>
     requires few { machine.old.steps + 1 < 2 ^ 32 }
     ensures stride { IsStride (stride_of (machine.old.steps + 1) budget machine.old.slot insn.now
         answers.now (step_of machine.old)) result (state_of machine.new) }
@@ -30,15 +30,15 @@ fn stride<'b>(
     questions_go_on();
     let slot = machine.slot();
     match machine.step() {
-        Outcome::Next => Some((change_of(insn, slot, machine), Some(answers))),
-        Outcome::Ask(question) => {
+        StepOutcome::Next => Some((step_change_of(insn, slot, machine), Some(answers))),
+        StepOutcome::Ask(question) => {
             let (answer, left) = answers.split_first()?;
             let answer = *answer;
             machine.answer(answer);
-            Some((Change::Told(Call { question, answer }), Some(left)))
+            Some((StepChange::Answered(Call { question, answer }), Some(left)))
         }
-        Outcome::Verdict(verdict) => Some((Change::Ended(verdict, machine.steps(), budget), None)),
-        Outcome::Trap => None,
+        StepOutcome::Verdict(verdict) => Some((StepChange::Ended(verdict, machine.steps(), budget), None)),
+        StepOutcome::Trap => None,
     }
 }
 

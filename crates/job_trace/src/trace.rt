@@ -5,15 +5,15 @@ ghost use Rattle.job_parts.specs.Matched.{app_of, fields_of};
 ghost use Rattle.job_parts.specs.Stops.{StopsBy};
 ghost use Rattle.job_trace.specs.Judged.{TracesPacket};
 ghost use Rattle.job_trace.specs.TraceJob.{trace_app};
-ghost use Rattle.job_trace.specs.Traced.{IsNotTraced, IsStuck, DoesTrace, TracesLineFrom};
+ghost use Rattle.job_trace.specs.Traced.{IsNotTraced, IsTraceStuck, DoesTrace, TracesLineFrom};
 
 use crate::judged::trace_packet;
 use clap::Command;
 use job_config::node_lines::{NodeLines, node_lines_command};
 use job_nodes::feeds::Feeds;
 use job_nodes::sources::lines_and_world;
-use job_parts::status::Status;
-use job_parts::stops::{Halt, LineHalt};
+use job_parts::status::ExitStatus;
+use job_parts::stops::{JobStop, LineStop};
 use job_parts::storage::Files;
 use job_parts::turns::{TakesLines, take_lines};
 use sched::World;
@@ -63,12 +63,12 @@ struct Tracing {
 impl TakesLines for Tracing {
     ghost takes = { TracesLineFrom };
 
-    ghost stops = { IsStuck };
+    ghost stops = { IsTraceStuck };
 
     /// Takes one line, and prints what becomes of the packet that it ends. It prints all of it at once, so that it
     /// prints nothing of a packet to which memory is refused.
-    #[tactic(auto, using(crate::proofs::LinesInTurn::traces_none, crate::proofs::LinesInTurn::traces_came))]
-    fn take<W: Write>(&mut self, alloc: Global, line: &str, out: &mut W) -> Result<(), LineHalt> {
+    #[tactic(auto, using(crate::proofs::LinesInTurn::traces_none, crate::proofs::LinesInTurn::traces_received))]
+    fn take<W: Write>(&mut self, alloc: Global, line: &str, out: &mut W) -> Result<(), LineStop> {
         let Some((port, packet)) = self.feeds.take_line(alloc, line)? else {
             return Ok(());
         };
@@ -99,7 +99,7 @@ pub fn trace_file<'a, F: Files, W: Write>(
     args: &'a NodeLines,
     files: &mut F,
     out: &mut W,
-) -> Result<Status, Halt<'a>>
+) -> Result<ExitStatus, JobStop<'a>>
     ensures done { IfOk result (DoesTrace F.reads args.now files.old files.new
         (W.contents out.old) (W.contents out.new)) }
     ensures stops { IfErr result (StopsBy (IsNotTraced F.reads args.now files.old files.new
@@ -107,9 +107,9 @@ pub fn trace_file<'a, F: Files, W: Write>(
 {
     let (text, made) = lines_and_world(alloc, args, files)?;
     let Some(world) = made else {
-        return Ok(Status::Misused);
+        return Ok(ExitStatus::Misused);
     };
     let mut tracing = tracing_on(alloc, world)?;
     take_lines(alloc, &mut tracing, text.as_str(), out)?;
-    Ok(Status::Done)
+    Ok(ExitStatus::Done)
 }

@@ -8,14 +8,14 @@ use Rattle.bver.specs.Justified.{IsJustified}
 use Rattle.bver_form.specs.Costs.{weight_by}
 use Rattle.machine.specs.Runs.{IsSafe}
 use Rattle.weights.specs.Classes.{cost_by, costs}
-use Rattle.job_parts.specs.Files.{Reads, HoldsImage}
+use Rattle.job_parts.specs.Files.{ReadsFile, HoldsImage}
 use Rattle.job_weigh.specs.Times.{in_nanoseconds}
 use Rattle.job_weigh.specs.declared.times.Times.{Times}
 use Rattle.job_weigh.specs.declared.weigh.WeighWords.{WeighWords}
 
 -- the lines of these weights
-unfoldable pub lines_of : (division call jump rest weight : ℕ) → List ℕ
-lines_of division call jump rest weight =
+unfoldable pub weight_lines_of : (division call jump rest weight : ℕ) → List ℕ
+weight_lines_of division call jump rest weight =
     codes "division " ++ (decimal division ++ (codes "\ncall " ++ (decimal call ++ (codes "\njump " ++ (decimal jump
     ++ (codes "\nrest " ++ (decimal rest ++ (codes "\nweight " ++ (decimal weight ++ 10 ∷ [])))))))))
 
@@ -23,7 +23,7 @@ lines_of division call jump rest weight =
 -- the weight if each of its instructions costs one, and each other instruction nothing
 abbrev pub class_lines : Program → List ℕ
 class_lines p =
-    lines_of (weight_by (cost_by (costs 1 0 0 0)) p) (weight_by (cost_by (costs 0 1 0 0)) p)
+    weight_lines_of (weight_by (cost_by (costs 1 0 0 0)) p) (weight_by (cost_by (costs 0 1 0 0)) p)
     (weight_by (cost_by (costs 0 0 1 0)) p) (weight_by (cost_by (costs 0 0 0 1)) p) (saturated_weight (weight_of p))
 
 -- how many nanoseconds a run of the program takes at most, if times are given: the weight if each instruction costs the
@@ -37,7 +37,7 @@ abbrev pub time_lines : Option ℕ → List ℕ
 time_lines None = []
 time_lines (Some most) = codes "at most " ++ decimal most ++ codes " ns" ++ 10 ∷ []
 
-module _ {S : Type 0} (reads : Reads S) where
+module _ {S : Type 0} (reads : ReadsFile S) where
   -- the image in the file is justified on a node with maps of these sizes, and so safe. No run of it costs more than
   -- its weight, whatever each instruction costs. Its weights by class were printed, and the time by the times that are
   -- given
@@ -47,6 +47,6 @@ module _ {S : Type 0} (reads : Reads S) where
     pub justified : IsJustified program words.sizes
     pub safe : IsSafe program words.sizes
     pub costs : IsSafeForCosts program
-    pub told : Option (List ℕ)
-    pub classes : Appends old told (class_lines program)
-    pub time : Appends told new (time_lines (longest program words.times))
+    pub reported : Option (List ℕ)
+    pub classes : Appends old reported (class_lines program)
+    pub time : Appends reported new (time_lines (longest program words.times))

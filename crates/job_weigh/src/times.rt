@@ -3,7 +3,7 @@
 ghost use Rattle.std.specs.Prelude.{◌≡◌, ◌≤◌, ◌-◌, ◌++◌, All, IfErr, IfOk, MatchResult, codes, length, map, replicate, string_bytes};
 ghost use Rattle.std.specs.List.{after_first, before_first};
 ghost use Rattle.job_parts.specs.Matched.{first_of, found_of, rows_of};
-ghost use Rattle.job_parts.specs.Options.{IsBadValue, IsValueFault, WritesSuch, list_parts};
+ghost use Rattle.job_parts.specs.Options.{IsBadValue, IsOptionFault, WritesSuch, list_parts};
 ghost use Rattle.job_weigh.specs.Times.{GivesTimes, IsTime, IsTimeIn, IsTimes, LacksTimes, RefusesTimes, WritesIn, WritesTimes, in_nanoseconds, is_point, rounded_up, times_of, value_in, written_times};
 ghost use Rattle.job_weigh.specs.declared.times.Unit.TheVariants.{Thousandth};
 
@@ -67,16 +67,16 @@ fn digits_written(digits: &str) -> Result<u32, UsageFault>
 /// What is before the point of a part, and what is after it.
 fn at_point(part: &str) -> (&str, &str)
     ensures before { result.0.now ≡ before_first is_point part.now }
-    ensures behind { result.1.now ≡ after_first is_point part.now }
+    ensures following { result.1.now ≡ after_first is_point part.now }
 {
     match part.split_once('.') {
-        Some((before, behind)) => (before, behind),
+        Some((before, following)) => (before, following),
         None => (part, ""),
     }
 }
 
 /// The zeros that this many digits lack to three.
-fn zeros_behind(count: usize) -> &'static str
+fn zeros_after(count: usize) -> &'static str
     ensures { result.now ≡ replicate (3 - count) 48 }
 {
     match count {
@@ -88,13 +88,13 @@ fn zeros_behind(count: usize) -> &'static str
 }
 
 /// The digits of thousandths, of those before and after a point.
-fn thousandths(alloc: Global, before: &str, behind: &str) -> Result<String, AllocError>
+fn thousandths(alloc: Global, before: &str, following: &str) -> Result<String, AllocError>
     ensures { IfOk result (λ digits. string_bytes digits
-        ≡ (before.now ++ behind.now) ++ replicate (3 - length behind.now) 48) }
+        ≡ (before.now ++ following.now) ++ replicate (3 - length following.now) 48) }
 {
     let mut digits = String::from_str(alloc, before)?;
-    digits.push_str(behind)?;
-    digits.push_str(zeros_behind(behind.len()))?;
+    digits.push_str(following)?;
+    digits.push_str(zeros_after(following.len()))?;
     Ok(digits)
 }
 
@@ -102,20 +102,20 @@ fn thousandths(alloc: Global, before: &str, behind: &str) -> Result<String, Allo
 fn fraction_written(alloc: Global, part: &str) -> Result<u32, UsageFault>
     ensures ok { IfOk result (λ time. IsTimeIn Thousandth part.now
         × (time ≡ value_in Thousandth part.now)) }
-    ensures err { IfErr result (IsValueFault (IsTimeIn Thousandth part.now)) }
+    ensures err { IfErr result (IsOptionFault (IsTimeIn Thousandth part.now)) }
 {
-    let (before, behind) = at_point(part);
-    if before.is_empty() || behind.len() > 3 {
+    let (before, following) = at_point(part);
+    if before.is_empty() || following.len() > 3 {
         return Err(UsageFault::BadOption);
     }
-    let digits = thousandths(alloc, before, behind)?;
+    let digits = thousandths(alloc, before, following)?;
     digits_written(digits.as_str())
 }
 
 /// How many units a part writes, or `BadOption`.
 fn time_written(alloc: Global, part: &str, unit: Unit) -> Result<u32, UsageFault>
     ensures ok { IfOk result (λ time. IsTimeIn unit part.now × (time ≡ value_in unit part.now)) }
-    ensures err { IfErr result (IsValueFault (IsTimeIn unit part.now)) }
+    ensures err { IfErr result (IsOptionFault (IsTimeIn unit part.now)) }
 {
     match unit {
         Unit::Nanosecond => digits_written(part),
@@ -127,7 +127,7 @@ fn time_written(alloc: Global, part: &str, unit: Unit) -> Result<u32, UsageFault
 fn each_time(alloc: Global, parts: &[&str], unit: Unit) -> Result<Vec<u32>, UsageFault>
     ensures ok { IfOk result (λ times. All (λ part. IsTimeIn unit part.now) parts.now
         × (times.items ≡ map (λ part. value_in unit part.now) parts.now)) }
-    ensures err { IfErr result (IsValueFault (All (λ part. IsTimeIn unit part.now) parts.now)) }
+    ensures err { IfErr result (IsOptionFault (All (λ part. IsTimeIn unit part.now) parts.now)) }
 {
     let mut times = Vec::new(alloc);
     for part in parts {
@@ -161,7 +161,7 @@ fn by_class(times: &[u32]) -> Result<Costs, UsageFault>
 fn times_written(alloc: Global, text: &str, unit: Unit) -> Result<Costs, UsageFault>
     ensures ok { IfOk result (λ times. IsTimes unit text.now
         × (times ≡ written_times unit text.now)) }
-    ensures err { IfErr result (IsValueFault (IsTimes unit text.now)) }
+    ensures err { IfErr result (IsOptionFault (IsTimes unit text.now)) }
 {
     let parts = parts_of(alloc, text)?;
     let times = each_time(alloc, parts.as_slice(), unit)?;
@@ -171,7 +171,7 @@ fn times_written(alloc: Global, text: &str, unit: Unit) -> Result<Costs, UsageFa
 /// The times that a list writes in a unit, with the unit.
 fn times_in(alloc: Global, text: &str, unit: Unit) -> Result<Times, UsageFault>
     ensures ok { IfOk result (WritesIn unit text.now) }
-    ensures err { IfErr result (IsValueFault (IsTimes unit text.now)) }
+    ensures err { IfErr result (IsOptionFault (IsTimes unit text.now)) }
 {
     let costs = times_written(alloc, text, unit)?;
     Ok(Times { costs, unit })

@@ -3,11 +3,11 @@
 ghost use Rattle.std.specs.Prelude.{◌≡◌, IfErr, IfOk, OnOk, false, string_bytes, None, Some};
 ghost use Rattle.job_parts.specs.Matched.{app_of, fields_of, found_of, rows_of};
 ghost use Rattle.job_parts.specs.Printed.{Prints};
-ghost use Rattle.job_parts.specs.Reading.{IsNoProgram};
+ghost use Rattle.job_parts.specs.Reading.{HasNoProgram};
 ghost use Rattle.job_parts.specs.Statuses.{IsDoneWith};
 ghost use Rattle.job_parts.specs.Stops.{StopsBy};
 ghost use Rattle.job_weigh.specs.WeighJob.{NamesWeigh, RefusesWeigh, weigh_app};
-ghost use Rattle.job_weigh.specs.Weighed.{Weighs, class_lines, lines_of, longest, time_lines};
+ghost use Rattle.job_weigh.specs.Weighed.{Weighs, class_lines, weight_lines_of, longest, time_lines};
 ghost use Rattle.job_parts.specs.Inputs.{AreInputs, input};
 ghost use Rattle.job_parts.specs.declared.inputs.Content.TheVariants.{Image};
 
@@ -18,8 +18,8 @@ use job_parts::arguments::{image_command, name_of, option};
 use job_parts::inputs::{Content, Inputs};
 use job_parts::options::{maps_option, sizes_of};
 use job_parts::programs::program_in;
-use job_parts::status::Status;
-use job_parts::stops::Halt;
+use job_parts::status::ExitStatus;
+use job_parts::stops::JobStop;
 use job_parts::storage::Files;
 use job_parts::usage::UsageFault;
 use std::alloc::{AllocError, Global};
@@ -92,7 +92,7 @@ fn print_lines<W: Write>(
     weight: u64,
 ) -> io::Result<()>
     ensures { OnOk result (Prints W.contents out.old out.new
-        (lines_of division call jump rest weight)) }
+        (weight_lines_of division call jump rest weight)) }
 {
     writeln!(
         out,
@@ -143,10 +143,10 @@ pub fn weigh_file<'a, F: Files, W: Write>(
     words: &'a WeighWords,
     files: &mut F,
     out: &mut W,
-) -> Result<Status, Halt<'a>>
+) -> Result<ExitStatus, JobStop<'a>>
     ensures done { IfOk result (IsDoneWith (Weighs F.reads words.now files.old files.new
         (W.contents out.old) (W.contents out.new))) }
-    ensures stops { IfErr result (StopsBy (IsNoProgram F.reads files.old
+    ensures stops { IfErr result (StopsBy (HasNoProgram F.reads files.old
         (string_bytes words.now.image) words.now.sizes files.new)) }
     ensures quiet { IfErr result (StopsBy (λ _. W.contents out.new ≡ W.contents out.old)) }
 {
@@ -155,5 +155,5 @@ pub fn weigh_file<'a, F: Files, W: Write>(
     print_weights(out, &program)?;
     let most = longest(&program, &words.times);
     print_time(out, most)?;
-    Ok(Status::Done)
+    Ok(ExitStatus::Done)
 }

@@ -24,7 +24,7 @@ use Rattle.annals.specs.Chains.{Due, chain_of, done_for, link, owner_of}
 use Rattle.annals.specs.Publishes.{publishes_chain}
 use Rattle.annals.specs.Shown.{AreListed, shown_in}
 use Rattle.target.specs.Loads.{AsksForLoad}
-use Rattle.ports.specs.Due.{Deed, HasMet, IsBanked, IsJudged, IsWindowed, Judging, Standing, Worked, stand}
+use Rattle.ports.specs.Due.{Deed, HasMet, IsBanked, IsJudgedInRun, IsWindowEnd, Judging, Standing, Worked, stand}
 use Rattle.ports.specs.Due.Deed.{Dropped, Answered, Judged}
 use Rattle.sched.specs.Looking.{Node}
 use Rattle.lawful.specs.Alone.{AreDealtInFull, IsJudgedInFull}
@@ -48,7 +48,7 @@ IsFrom place s last (p ∷ ps) (Judged j ∷ ds) w = place ≤ length w.1.moment
 
 -- what is so of whichever command comes next
 abbrev pub IsSoOfNext : (place : ℕ) (last s : Standing) → Type 0
-IsSoOfNext place last s = (j : Judging) (p : Cargo) (after : Standing) (is : IsJudged j p s after) → IsPrefix after.front last.front → place ≤ length is.moment.at
+IsSoOfNext place last s = (j : Judging) (p : Cargo) (after : Standing) (is : IsJudgedInRun j p s after) → IsPrefix after.front last.front → place ≤ length is.moment.at
 
 pub from_by : (place : ℕ) (s last : Standing) (ps : List Cargo) (ds : List Deed) (w : Worked s ps ds last) → IsSoOfNext place last s → IsFrom place s last ps ds w
 from_by place s last [] [] w all = tt
@@ -72,7 +72,7 @@ from_front place s last ps ds w few = from_by place s last ps ds w (λ j p after
     let more = prefix_length s.front is.moment.at is.moment.after in omega (arith, few, more))
 
 -- what a port knows when a command was taken begins what it knows when that ended
-pub reached_front : (j : Judging) (p : Cargo) (s after : Standing) (is : IsJudged j p s after) → IsPrefix is.reached after.front
+pub reached_front : (j : Judging) (p : Cargo) (s after : Standing) (is : IsJudgedInRun j p s after) → IsPrefix is.reached after.front
 reached_front j p s after is = elim is.ended [
   | inl banked ↦
       let it = banked.ended in
@@ -81,12 +81,12 @@ reached_front j p s after is = elim is.ended [
 ]
 
 -- the moment at which a command was taken is in the list
-pub moment_stands : (j : Judging) (p : Cargo) (s after : Standing) (whole : List Link) (is : IsJudged j p s after) → IsPrefix after.front whole → IsPrefix is.moment.at whole
+pub moment_stands : (j : Judging) (p : Cargo) (s after : Standing) (whole : List Link) (is : IsJudgedInRun j p s after) → IsPrefix after.front whole → IsPrefix is.moment.at whole
 moment_stands j p s after whole is begins =
     prefix_trans is.moment.at is.reached whole is.moment.before (prefix_trans is.reached after.front whole (reached_front j p s after is) begins)
 
 -- readers then see all that the port knew
-pub moment_sees : (j : Judging) (p : Cargo) (s after : Standing) (whole : List Link) (is : IsJudged j p s after) → AreListed whole → IsPrefix after.front whole → length s.pass.programs ≤ shown_in is.moment.at
+pub moment_sees : (j : Judging) (p : Cargo) (s after : Standing) (whole : List Link) (is : IsJudgedInRun j p s after) → AreListed whole → IsPrefix after.front whole → length s.pass.programs ≤ shown_in is.moment.at
 moment_sees j p s after whole is listed begins =
     let many = seen_count is.moment.at (listed is.moment.at (moment_stands j p s after whole is begins)) in
     let seen = ap length is.moment.seen in
@@ -103,32 +103,32 @@ from_seen place whole s last ps ds w listed begins all = from_by place s last ps
 -- ---- how a judged command ended
 
 -- at a bank, if it left its entry
-pub record LeavesEntry (j : Judging) (p : Cargo) (s after : Standing) (is : IsJudged j p s after) : Type 0 where
+pub record LeavesEntry (j : Judging) (p : Cargo) (s after : Standing) (is : IsJudgedInRun j p s after) : Type 0 where
   pub banked : IsBanked j (stand is.between s.asked is.reached) after
   pub left : j.entered ≡ true
 
 -- in the boot window, with no publish
-pub record PublishesNone (j : Judging) (p : Cargo) (s after : Standing) (is : IsJudged j p s after) : Type 0 where
-  pub windowed : IsWindowed j (stand is.between s.asked is.reached) after
+pub record PublishesNone (j : Judging) (p : Cargo) (s after : Standing) (is : IsJudgedInRun j p s after) : Type 0 where
+  pub windowed : IsWindowEnd j (stand is.between s.asked is.reached) after
   pub none : j.loaded ≡ None
 
 -- in the boot window, with a publish, which is in the list
-pub record PublishesOne (q : ℕ) (whole : List Link) (j : Judging) (p : Cargo) (s after : Standing) (is : IsJudged j p s after) : Type 0 where
-  pub windowed : IsWindowed j (stand is.between s.asked is.reached) after
+pub record PublishesOne (q : ℕ) (whole : List Link) (j : Judging) (p : Cargo) (s after : Standing) (is : IsJudgedInRun j p s after) : Type 0 where
+  pub windowed : IsWindowEnd j (stand is.between s.asked is.reached) after
   pub publish : Publish
   pub some : j.loaded ≡ Some publish
   pub placed : IsPlaced q whole is.reached windowed.old publish
 
-abbrev pub HasEnded : (q : ℕ) (whole : List Link) (j : Judging) (p : Cargo) (s after : Standing) → IsJudged j p s after → Type 0
+abbrev pub HasEnded : (q : ℕ) (whole : List Link) (j : Judging) (p : Cargo) (s after : Standing) → IsJudgedInRun j p s after → Type 0
 HasEnded q whole j p s after is = LeavesEntry j p s after is ⊎ (PublishesNone j p s after is ⊎ PublishesOne q whole j p s after is)
 
-pub ended : (q : ℕ) (whole : List Link) (j : Judging) (p : Cargo) (s after : Standing) (is : IsJudged j p s after) → IsJudgedInFull s after j → IsLoadPlaced q whole j p s after is → HasEnded q whole j p s after is
+pub ended : (q : ℕ) (whole : List Link) (j : Judging) (p : Cargo) (s after : Standing) (is : IsJudgedInRun j p s after) → IsJudgedInFull s after j → IsLoadPlaced q whole j p s after is → HasEnded q whole j p s after is
 ended q whole j p s after is full placed = elim is.ended [
   | inl banked ↦ inl (record { banked = banked; left = full.entered (bank_is j.judged.place banked.number banked.place) })
   | inr windowed ↦ inr (by windowed j.loaded refl)
 ]
   where
-    by : (windowed : IsWindowed j (stand is.between s.asked is.reached) after) (loaded : Option Publish) → j.loaded ≡ loaded → PublishesNone j p s after is ⊎ PublishesOne q whole j p s after is
+    by : (windowed : IsWindowEnd j (stand is.between s.asked is.reached) after) (loaded : Option Publish) → j.loaded ≡ loaded → PublishesNone j p s after is ⊎ PublishesOne q whole j p s after is
     by windowed None none = inl (record { windowed = windowed; none = none })
     by windowed (Some publish) some = inr (record { windowed = windowed; publish = publish; some = some; placed = placed publish windowed some })
 
@@ -173,7 +173,7 @@ asks_some : (port : ℕ) (loaded : Option Publish) (x : Publish) (old new : List
 asks_some port loaded x old new asked after is asks = subst (λ (o : Option Publish). AsksForLoad port o old new asked after) is asks
 
 -- where a load's publish is, by what its port knows of the history
-place_of_load : (q : ℕ) (whole : List Link) (j : Judging) (p : Cargo) (s after : Standing) (is : IsJudged j p s after) → s.pass.port ≡ q → IsPrefix after.front whole → IsLoadPlaced q whole j p s after is
+place_of_load : (q : ℕ) (whole : List Link) (j : Judging) (p : Cargo) (s after : Standing) (is : IsJudgedInRun j p s after) → s.pass.port ≡ q → IsPrefix after.front whole → IsLoadPlaced q whole j p s after is
 place_of_load q whole j p s after is port front = λ publish it some.
     let asks = asks_some is.between.port j.loaded publish it.old it.new s.asked after.asked some it.asks_for in
     let load = load_of j.judged.place is.between after.pass it.old it.new j.judged it.result j.reply publish refl it.ended asks.0 in
@@ -194,7 +194,7 @@ loads_placed laws q whole s last (p ∷ ps) (Judged j ∷ ds) w port begins =
       loads_placed laws q whole w.0 last ps ds w.2 ((one_counted laws.counts (Judged j) p s w.0 w.1).port ∙ port) begins,
     )
 
-pub one_loaded : (q : ℕ) (whole : List Link) (j : Judging) (p : Cargo) (s after : Standing) (is : IsJudged j p s after) (one : PublishesOne q whole j p s after is)
+pub one_loaded : (q : ℕ) (whole : List Link) (j : Judging) (p : Cargo) (s after : Standing) (is : IsJudgedInRun j p s after) (one : PublishesOne q whole j p s after is)
     → IsLoadOf is.between after.pass one.windowed.old one.windowed.new j.judged one.windowed.result j.reply one.publish
 one_loaded q whole j p s after is one =
     let it = one.windowed in
@@ -204,7 +204,7 @@ one_loaded q whole j p s after is one =
 -- ---- acts
 
 -- what a command did that left an entry or published: it is in the list after all that the port knew when it was taken
-pub record HasActed (q : ℕ) (whole : List Link) (j : Judging) (p : Cargo) (s after : Standing) (is : IsJudged j p s after) : Type 0 where
+pub record HasActed (q : ℕ) (whole : List Link) (j : Judging) (p : Cargo) (s after : Standing) (is : IsJudgedInRun j p s after) : Type 0 where
   pub before : List Link
   pub item : Link
   pub act : Act
@@ -214,7 +214,7 @@ pub record HasActed (q : ℕ) (whole : List Link) (j : Judging) (p : Cargo) (s a
   pub seen : IsPrefix is.reached before
   pub asked : length after.asked ≡ length s.asked + 1
 
-abbrev pub entry_acted : (q k : ℕ) (whole : List Link) (j : Judging) (p : Cargo) (s after : Standing) (is : IsJudged j p s after) (done : IsDoneAt k j (stand is.between s.asked is.reached) after) → s.pass.port ≡ q → IsPrefix after.front whole
+abbrev pub entry_acted : (q k : ℕ) (whole : List Link) (j : Judging) (p : Cargo) (s after : Standing) (is : IsJudgedInRun j p s after) (done : IsDoneAt k j (stand is.between s.asked is.reached) after) → s.pass.port ≡ q → IsPrefix after.front whole
     → length after.asked ≡ length s.asked + 1 → HasActed q whole j p s after is
 entry_acted q k whole j p s after is done port begins asked = record {
   before = done.before;
@@ -228,13 +228,13 @@ entry_acted q k whole j p s after is done port begins asked = record {
 }
 
 -- for a load its port asked for one more
-pub load_asked : (q : ℕ) (whole : List Link) (j : Judging) (p : Cargo) (s after : Standing) (is : IsJudged j p s after) → PublishesOne q whole j p s after is → length after.asked ≡ length s.asked + 1
+pub load_asked : (q : ℕ) (whole : List Link) (j : Judging) (p : Cargo) (s after : Standing) (is : IsJudgedInRun j p s after) → PublishesOne q whole j p s after is → length after.asked ≡ length s.asked + 1
 load_asked q whole j p s after is one =
     let it = one.windowed in
     let asks = asks_some is.between.port j.loaded one.publish it.old it.new s.asked after.asked one.some it.asks_for in
     ap length asks.1 ∙ length-append s.asked ((publishes_chain, Publishes (is.between.port, one.publish)) ∷ [])
 
-abbrev pub load_acted : (q : ℕ) (whole : List Link) (j : Judging) (p : Cargo) (s after : Standing) (is : IsJudged j p s after) → PublishesOne q whole j p s after is → HasActed q whole j p s after is
+abbrev pub load_acted : (q : ℕ) (whole : List Link) (j : Judging) (p : Cargo) (s after : Standing) (is : IsJudgedInRun j p s after) → PublishesOne q whole j p s after is → HasActed q whole j p s after is
 load_acted q whole j p s after is one = record {
   before = one.placed.before;
   item = one.placed.item;
@@ -247,7 +247,7 @@ load_acted q whole j p s after is one = record {
 }
 
 -- after a load the next command is taken not before the place of its publish
-pub from_publish : (q : ℕ) (whole : List Link) (j : Judging) (p : Cargo) (s after last : Standing) (is : IsJudged j p s after) (one : PublishesOne q whole j p s after is) (ps : List Cargo) (ds : List Deed) (w : Worked after ps ds last)
+pub from_publish : (q : ℕ) (whole : List Link) (j : Judging) (p : Cargo) (s after last : Standing) (is : IsJudgedInRun j p s after) (one : PublishesOne q whole j p s after is) (ps : List Cargo) (ds : List Deed) (w : Worked after ps ds last)
     → AreListed whole → IsPrefix last.front whole → IsFrom (length one.placed.before + 1) after last ps ds w
 from_publish q whole j p s after last is one ps ds w listed begins =
     from_seen (length one.placed.before + 1) whole after last ps ds w listed begins (λ at stands many.
@@ -265,7 +265,7 @@ from_publish q whole j p s after last is one ps ds w listed begins =
 
 -- Before the moment at which a command is taken its port did no more than it asked for before that command. It is so if
 -- it is so after the command.
-judged_few : (q : ℕ) (whole x : List Link) (s last after : Standing) (j : Judging) (p : Cargo) (ps : List Cargo) (ds : List Deed) (is : IsJudged j p s after) (w : Worked after ps ds last) → AreListed whole → IsPrefix last.front whole
+judged_few : (q : ℕ) (whole x : List Link) (s last after : Standing) (j : Judging) (p : Cargo) (ps : List Cargo) (ds : List Deed) (is : IsJudgedInRun j p s after) (w : Worked after ps ds last) → AreListed whole → IsPrefix last.front whole
     → s.pass.port ≡ q → IsPrefix after.front whole → IsPrefix x whole → length x ≤ length is.moment.at → HasEnded q whole j p s after is
     → ((y : List Link) → IsPrefix y whole → IsFrom (length y) after last ps ds w → length (done_for q y) ≤ length after.asked) → length (done_for q x) ≤ length s.asked
 judged_few q whole x s last after j p ps ds is w listed begins port front stands from end rest = by end

@@ -22,19 +22,19 @@ use Rattle.node_parts.specs.Nodes.{range_of}
 use Rattle.node_parts.specs.Passes.{PassValue}
 use Rattle.annals.specs.declared.deed.Link.{Link}
 use Rattle.annals.specs.Banks.{entries_of}
-use Rattle.ports.specs.Due.{Deed, IsDealt, IsJudged, Judging, Standing, Worked, judgings, stand}
+use Rattle.ports.specs.Due.{Deed, IsDealt, IsJudgedInRun, Judging, Standing, Worked, judgings, stand}
 use Rattle.ports.specs.Due.Deed.{Dropped, Answered, Judged}
-use Rattle.ports.specs.Laws.{SharesCount, WorkersSharesCount, entries_at, is_bank_of, is_entry_at, loaded_by, number_at}
+use Rattle.ports.specs.Laws.{SharesCount, WorkersSharesCount, entry_count_at, is_bank_of, is_entry_at, publishes_of_commands, next_number_at}
 use Rattle.sched.specs.declared.event.Event.{Event}
 use Rattle.sched.specs.declared.event.Event.TheVariants.{Take, Effect}
 use Rattle.sched.specs.declared.event.Outcome.TheVariants.{Done, Taken}
 use Rattle.sched.specs.History.{History, Start, Then, Open, port_of}
-use Rattle.sched.specs.Looking.{Node, entries, staged_behind, staging}
-use Rattle.sched.specs.Turns.{answers_of}
+use Rattle.sched.specs.Looking.{Node, entries, staged_after, staging}
+use Rattle.sched.specs.Turns.{answers_of_calls}
 use Rattle.sched.specs.Agreement.{PublishedAgrees, slot_and_program}
 use Rattle.lawful.specs.Alone.{AreDealtInFull, IsDealtInFull, IsFreshPort, IsJudgedInFull, IsOwnBank, OnePortIsLawful}
-use Rattle.sched.specs.Lawful.{IsOutcomeAtButTold}
-use Rattle.lawful.specs.Happenings.{Happening, HappenBy, ending, happened_at, happening, told_calls}
+use Rattle.sched.specs.Lawful.{IsOutcomeAtExceptAnswer}
+use Rattle.lawful.specs.Happenings.{Happening, HappenBy, ending, happened_at, happening, answered_calls}
 use Rattle.lawful.proofs.Entering.{bank_staging, bank_thus, finished_front}
 use Rattle.lawful.proofs.Growing.{banked_programs, dealt_grown, judged_grown, loads_first, made, made_by, taken_longer, worked_grown}
 use Rattle.lawful.proofs.Idling.{HasDealt, HasGone, IsIdle, IsKnown, IsLeftSoFar, dropped, gone_on, known_kept, left_kept, replied}
@@ -42,22 +42,22 @@ use Rattle.lawful.proofs.Keeping.{apart, itself, elsewhere_on, elsewhere_same, h
 use Rattle.lawful.proofs.Loading.{IsAround, IsNow, quiet_known, window_thus}
 use Rattle.lawful.proofs.Owning.{entries_prefix, own_so_far, range_length}
 use Rattle.lawful.proofs.Taking.{HasVerdict, taken}
-use Rattle.lawful.proofs.Telling.{asking, outcome_here, tell}
+use Rattle.lawful.proofs.Reporting.{asking, outcome_here, answered_history}
 use Rattle.lemmas.proofs.Prefixes.{prefix_length, prefix_same, prefix_self, prefix_trans, prefix_whole}
 
 -- ---- what one command counts
 
-one_at : (k : ℕ) (j : Judging) (b : Bool) → is_entry_at k j ≡ b → entries_at k (Judged j ∷ []) ≡ length (cond b (j ∷ []) [])
+one_at : (k : ℕ) (j : Judging) (b : Bool) → is_entry_at k j ≡ b → entry_count_at k (Judged j ∷ []) ≡ length (cond b (j ∷ []) [])
 one_at k j b is = ap (λ (t : Bool). length (cond t (j ∷ []) [])) is
 
 -- what the shares of a port count after one command
 pub one_counted : WorkersSharesCount → (d : Deed) (p : Cargo) (s after : Standing) → IsDealt d p s after → SharesCount s.pass after.pass (d ∷ [])
 one_counted counts d p s after is = counts s after (p ∷ []) (d ∷ []) (after, is, refl)
 
-counted_one : (k : ℕ) (j : Judging) (s after : PassValue) → SharesCount s after (Judged j ∷ []) → k < length s.shares → is_entry_at k j ≡ true → number_at after k ≡ number_at s k + 1
+counted_one : (k : ℕ) (j : Judging) (s after : PassValue) → SharesCount s after (Judged j ∷ []) → k < length s.shares → is_entry_at k j ≡ true → next_number_at after k ≡ next_number_at s k + 1
 counted_one k j s after count below is = let number = count.numbers k below in let one = one_at k j true is in omega (arith, number, one)
 
-counted_none : (k : ℕ) (j : Judging) (s after : PassValue) → SharesCount s after (Judged j ∷ []) → k < length s.shares → is_entry_at k j ≡ false → number_at after k ≡ number_at s k
+counted_none : (k : ℕ) (j : Judging) (s after : PassValue) → SharesCount s after (Judged j ∷ []) → k < length s.shares → is_entry_at k j ≡ false → next_number_at after k ≡ next_number_at s k
 counted_none k j s after count below is = let number = count.numbers k below in let none = one_at k j false is in omega (arith, number, none)
 
 entry_here : (k : ℕ) (j : Judging) → j.entered ≡ true → j.judged.place ≡ places.Bank k → is_entry_at k j ≡ true
@@ -93,20 +93,20 @@ bank_is place k at = ap is_bank_place at
 -- a command that has its verdict was done: what its port has then, and what happened
 done_dealt : (n : Node) (port : ℕ) (start : List Link) (p : Cargo) (j : Judging) (h now : History) (s after : Standing) (between : PassValue) (e : Event) (status : Status) (loaded : Option (List ℕ)) → port < n.ports
     → IsIdle n port start h s → HasVerdict n port h now p j → between.staging ≡ s.pass.staging → SharesCount s.pass after.pass (Judged j ∷ []) → IsPrefix s.front after.front → e ≡ ending j.judged.place port
-    → IsOutcomeAtButTold n now e (Done status j.reply loaded) → staged_behind n (Some (asking p j.judged.generation h (answers_of j.calls))) status loaded between.staging ≡ after.pass.staging
+    → IsOutcomeAtExceptAnswer n now e (Done status j.reply loaded) → staged_after n (Some (asking p j.judged.generation h (answers_of_calls j.calls))) status loaded between.staging ≡ after.pass.staging
     → IsKnown n (Then now e (Done status j.reply loaded)) after.pass.programs
     → ((k : ℕ) (bank : BankConfig) → slice_get n.banks k ≡ Some bank → IsLeftSoFar (entries n (Then now e (Done status j.reply loaded)) k) k after)
     → HasDealt n port start (Judged j) p h after
-done_dealt n port start p j h now s after between e status loaded there idle verdict staging_same count begins ending_is outcome staging_told known banks =
-    let o = asking p j.judged.generation h (answers_of j.calls) in
+done_dealt n port start p j h now s after between e status loaded there idle verdict staging_same count begins ending_is outcome staging_reported known banks =
+    let o = asking p j.judged.generation h (answers_of_calls j.calls) in
     let ended = Done status j.reply loaded in
     let next = Then now e ended in
     let own : port_of e ≡ port = ap port_of ending_is ∙ ending_port j.judged.place port in
     let staging_is : staging n next port ≡ after.pass.staging =
     staging_here n now e ended port own
-    ∙ (ap (λ (x : Option Open). staged_behind n x status loaded (staging n now port)) verdict.is_open
-    ∙ (ap (staged_behind n (Some o) status loaded) (verdict.keeps.own ∙ (idle.staging_is ∙ sym staging_same)) ∙ staging_told)) in
-    let first = happening (Take port p) (Taken j.judged.generation) ∷ told_calls port j.calls in
+    ∙ (ap (λ (x : Option Open). staged_after n x status loaded (staging n now port)) verdict.is_open
+    ∙ (ap (staged_after n (Some o) status loaded) (verdict.keeps.own ∙ (idle.staging_is ∙ sym staging_same)) ∙ staging_reported)) in
+    let first = happening (Take port p) (Taken j.judged.generation) ∷ answered_calls port j.calls in
     record {
       after = next;
       idle = record {
@@ -185,16 +185,16 @@ pub record Laws : Type 0 where
   pub agrees : PublishedAgrees
 
 judged_dealt : Laws → (n : Node) (port : ℕ) (start whole : List Link) (p : Cargo) (j : Judging) (h : History) (s after : Standing) → port < n.ports → AreOwn n port whole → IsIdle n port start h s
-    → (is : IsJudged j p s after) → IsJudgedInFull s after j → length after.pass.programs ≤ length s.pass.programs + made j.loaded → IsPrefix after.front whole → HasDealt n port start (Judged j) p h after
+    → (is : IsJudgedInRun j p s after) → IsJudgedInFull s after j → length after.pass.programs ≤ length s.pass.programs + made j.loaded → IsPrefix after.front whole → HasDealt n port start (Judged j) p h after
 judged_dealt laws n port start whole p j h s after there own idle is full few begins =
     let grown = judged_grown j p s after is in
     let same : is.between.programs ≡ s.pass.programs =
     sym (prefix_whole s.pass.programs is.between.programs (taken_longer j p s after is) (omega (arith, grown, few))) in
     let g = j.judged.generation in
-    let now = tell port j.calls (Then h (Take port p) (Taken g)) in
+    let now = answered_history port j.calls (Then h (Take port p) (Taken g)) in
     let seen : IsKnown n h is.between.programs = subst (λ (xs : List Publish). IsKnown n h xs) (sym same) idle.known in
     let verdict = taken laws.front n port p j h s after there idle.lawful idle.closed idle.windows idle.port_is is seen in
-    let o = asking p g h (answers_of j.calls) in
+    let o = asking p g h (answers_of_calls j.calls) in
     let middle = stand is.between s.asked is.reached in
     let count = one_counted laws.counts (Judged j) p s after is in
     let staging_same : is.between.staging ≡ s.pass.staging = ap (λ (x : PassValue). x.staging) is.judgement.asked in
@@ -217,7 +217,7 @@ judged_dealt laws n port start whole p j h s after there own idle is full few be
           let placed = is.judgement.judged_for.placed.inside k banked.place in
           let bank = there_at n.banks k (subst (λ (w : WindowsValue). k < length w.banks) idle.windows placed.below) in
           let port_is : j.judged.port ≡ port = is.judgement.judged_for.port_of ∙ idle.port_is in
-          let number : number_at is.between k ≡ number_at s.pass k = ap (λ (x : PassValue). number_at x k) is.judgement.asked in
+          let number : next_number_at is.between k ≡ next_number_at s.pass k = ap (λ (x : PassValue). next_number_at x k) is.judgement.asked in
           let end = bank_thus n port k bank.bank whole now o j s middle after bank.is (own k bank.bank bank.is) here refl port_is banked.place left banked moment begins (so_far k bank.bank bank.is) number in
           let later : IsPrefix s.front after.front = prefix_trans s.front is.reached after.front moment end.grown in
           let programs : after.pass.programs ≡ is.between.programs = banked_programs j middle after banked in
@@ -243,15 +243,15 @@ judged_dealt laws n port start whole p j h s after there own idle is full few be
 -- ---- all packets
 
 -- the programs that a port knows of are as many more as it published, also by the first of its packets
-few_first : (d : Deed) (p : Cargo) (ps : List Cargo) (ds : List Deed) (s last : Standing) (w : Worked s (p ∷ ps) (d ∷ ds) last) → length last.pass.programs ≤ length s.pass.programs + length (loaded_by (judgings (d ∷ ds)))
+few_first : (d : Deed) (p : Cargo) (ps : List Cargo) (ds : List Deed) (s last : Standing) (w : Worked s (p ∷ ps) (d ∷ ds) last) → length last.pass.programs ≤ length s.pass.programs + length (publishes_of_commands (judgings (d ∷ ds)))
     → length w.0.pass.programs ≤ length s.pass.programs + made_by d
 few_first d p ps ds s last w few =
     let rest = worked_grown w.0 last ps ds w.2 in
     let first = loads_first d ds in
     omega (arith, few, rest, first)
 
-few_rest : (d : Deed) (p : Cargo) (ps : List Cargo) (ds : List Deed) (s last : Standing) (w : Worked s (p ∷ ps) (d ∷ ds) last) → length last.pass.programs ≤ length s.pass.programs + length (loaded_by (judgings (d ∷ ds)))
-    → length last.pass.programs ≤ length w.0.pass.programs + length (loaded_by (judgings ds))
+few_rest : (d : Deed) (p : Cargo) (ps : List Cargo) (ds : List Deed) (s last : Standing) (w : Worked s (p ∷ ps) (d ∷ ds) last) → length last.pass.programs ≤ length s.pass.programs + length (publishes_of_commands (judgings (d ∷ ds)))
+    → length last.pass.programs ≤ length w.0.pass.programs + length (publishes_of_commands (judgings ds))
 few_rest d p ps ds s last w few =
     let here = dealt_grown d p s w.0 w.1 in
     let first = loads_first d ds in
@@ -283,7 +283,7 @@ dealt laws n port start whole (Answered reply) p h s after there own idle is ful
 dealt laws n port start whole (Judged j) p h s after there own idle is full few begins = judged_dealt laws n port start whole p j h s after there own idle is full few begins
 
 gone : Laws → (n : Node) (port : ℕ) (start whole : List Link) (ps : List Cargo) (ds : List Deed) (h : History) (s last : Standing) (w : Worked s ps ds last) → port < n.ports → AreOwn n port whole → IsIdle n port start h s
-    → AreDealtInFull n s ps ds last w → length last.pass.programs ≤ length s.pass.programs + length (loaded_by (judgings ds)) → IsPrefix last.front whole → HasGone n port start ps ds h last
+    → AreDealtInFull n s ps ds last w → length last.pass.programs ≤ length s.pass.programs + length (publishes_of_commands (judgings ds)) → IsPrefix last.front whole → HasGone n port start ps ds h last
 gone laws n port start whole [] [] h s last w there own idle full few begins = record {
   after = h;
   idle = subst (λ (x : Standing). IsIdle n port start h x) (sym w) idle;
@@ -325,10 +325,10 @@ all_entries : (n : Node) (port k : ℕ) (bank : BankConfig) (start whole : List 
 all_entries n port k bank start whole h last there own idle begins counted =
     let left = idle.banks k bank there in
     let far = own_so_far port k bank whole whole own (prefix_self whole) in
-    let mine : IsPrefix (numbers_of port (entries_of k whole)) (range_with_len 0 (number_at last.pass k)) =
-    subst (λ (q : ℕ). IsPrefix (numbers_of q (entries_of k whole)) (range_with_len 0 (number_at last.pass k))) idle.port_is counted in
-    let few = prefix_length (numbers_of port (entries_of k whole)) (range_with_len 0 (number_at last.pass k)) mine in
-    let range = range_length 0 (number_at last.pass k) in
+    let mine : IsPrefix (numbers_of port (entries_of k whole)) (range_with_len 0 (next_number_at last.pass k)) =
+    subst (λ (q : ℕ). IsPrefix (numbers_of q (entries_of k whole)) (range_with_len 0 (next_number_at last.pass k))) idle.port_is counted in
+    let few = prefix_length (numbers_of port (entries_of k whole)) (range_with_len 0 (next_number_at last.pass k)) mine in
+    let range = range_length 0 (next_number_at last.pass k) in
     let numbers = far.numbers in
     let number = left.number in
     prefix_whole (entries n h k) (entries_of k whole)

@@ -23,20 +23,20 @@ use Rattle.node_parts.specs.Passes.{PassValue}
 use Rattle.annals.specs.declared.deed.Act.TheVariants.{Leaves}
 use Rattle.annals.specs.declared.deed.Deed.TheVariants.{Does}
 use Rattle.annals.specs.declared.deed.Link.{Link}
-use Rattle.annals.specs.Banks.{IsDone, answer_after, entries_of, memory_after, takes}
+use Rattle.annals.specs.Banks.{IsDoneAtBank, answer_after, entries_of, memory_after, takes}
 use Rattle.annals.specs.Chains.{Due, chain_of, link}
-use Rattle.target.specs.Finished.{IsDoneBehind}
+use Rattle.target.specs.Finished.{IsDoneAfter}
 use Rattle.ports.specs.Due.{IsBanked, Judging, Standing}
-use Rattle.ports.specs.Laws.{number_at}
+use Rattle.ports.specs.Laws.{next_number_at}
 use Rattle.sched.specs.declared.event.Event.TheVariants.{Effect}
 use Rattle.sched.specs.declared.event.Outcome.TheVariants.{Done}
 use Rattle.sched.specs.History.{History, Then, Open, opened}
-use Rattle.sched.specs.Lawful.{IsOutcomeAtButTold, bank_answer, effect_outcome}
-use Rattle.sched.specs.Looking.{Node, entered, entries, entry_left, first_memory, has_room, memory, place_in, staged_at, staged_behind, verdict_at}
+use Rattle.sched.specs.Lawful.{IsOutcomeAtExceptAnswer, bank_answer, effect_outcome}
+use Rattle.sched.specs.Looking.{Node, entered, entries, entry_left, first_memory, has_entry_room, memory, place_in, staged_at, staged_after, verdict_at}
 use Rattle.lawful.specs.Alone.{IsOwnBank}
 use Rattle.lawful.proofs.Idling.{IsLeftSoFar}
 use Rattle.lawful.proofs.Keeping.{apart, itself}
-use Rattle.lawful.proofs.Loading.{IsNow, effect_told, entries_done}
+use Rattle.lawful.proofs.Loading.{IsNow, effect_reported, entries_done}
 use Rattle.lawful.proofs.Owning.{begun_before, entries_prefix, entry_last, own_so_far, range_length}
 use Rattle.lemmas.proofs.Prefixes.{prefix_same, prefix_trans, prefix_whole}
 
@@ -44,13 +44,13 @@ left_some : (b : BankValue) (share : ShareValue) (j : JudgedValue) → banks.has
 left_some b share j room = ap (λ (r : Bool). if r then Some share.number else None) room
 
 -- a command that left an entry was done, with the port's share of its place
-done_behind : (j : Judging) (h after : Standing) (is : IsBanked j h after) → j.entered ≡ true
-    → IsDoneBehind h.pass.programs is.ended.before.chain.number h.front after.front (share_of h.pass j.judged.place) j.judged is.ended.result j.reply
-done_behind j h after is left =
+done_after : (j : Judging) (h after : Standing) (is : IsBanked j h after) → j.entered ≡ true
+    → IsDoneAfter h.pass.programs is.ended.before.chain.number h.front after.front (share_of h.pass j.judged.place) j.judged is.ended.result j.reply
+done_after j h after is left =
     let share = share_of h.pass j.judged.place in let before = is.ended.before in let end = is.ended.finished in
     let parts = and_parts (takes before share j.judged) (banks.has_room before.bank j.judged.port) (sym is.entered ∙ left) in
     let number = (end.applied parts.0).number ∙ left_some before.bank share j.judged parts.1 in
-    subst (λ (o : Option ℕ). IfSome o (λ n. IsDoneBehind h.pass.programs before.chain.number h.front after.front share j.judged is.ended.result j.reply)) number end.done
+    subst (λ (o : Option ℕ). IfSome o (λ n. IsDoneAfter h.pass.programs before.chain.number h.front after.front share j.judged is.ended.result j.reply)) number end.done
 
 -- and its port asked for that entry
 pub asks_one : (j : Judging) (h after : Standing) (is : IsBanked j h after) → j.entered ≡ true → length after.asked ≡ length h.asked + 1
@@ -81,13 +81,13 @@ banked_staging j h after is = ap (λ (x : PassValue). x.staging) is.ended.finish
 
 -- what looking back finds of a staging after a command at a bank
 pub bank_staging : (n : Node) (o : Open) (j : Judging) (k : ℕ) (status : Status) (h after : Standing) → place_in n o.packet ≡ Some j.judged.place → j.judged.place ≡ places.Bank k → IsBanked j h after
-    → staged_behind n (Some o) status None h.pass.staging ≡ after.pass.staging
+    → staged_after n (Some o) status None h.pass.staging ≡ after.pass.staging
 bank_staging n o j k status h after lies place is =
     ap (λ (x : Option Place). staged_at x status (command_of o.packet) h.pass.staging) (lies ∙ ap (λ (x : Place). Some x) place) ∙ sym (banked_staging j h after is)
 
 -- a port knows more of the list, or what it knew
 pub finished_front : (number : Option ℕ) (programs : List Publish) (k : ℕ) (known reached : List Link) (share : ShareValue) (j : JudgedValue) (result : Applied) (reply : List ℕ)
-    → IfSome number (λ x. IsDoneBehind programs k known reached share j result reply) → IfNone number (reached ≡ known) → IsPrefix known reached
+    → IfSome number (λ x. IsDoneAfter programs k known reached share j result reply) → IfNone number (reached ≡ known) → IsPrefix known reached
 finished_front None programs k known reached share j result reply some none = prefix_same known reached none
 finished_front (Some x) programs k known reached share j result reply some none =
     prefix_trans known some.done.last.before reached some.done.last.seen (_, sym some.done.last.log)
@@ -107,10 +107,10 @@ pub record IsDoneAt (k : ℕ) (j : Judging) (h after : Standing) : Type 0 where
 
 pub done_at : (k : ℕ) (j : Judging) (h after : Standing) (is : IsBanked j h after) → j.judged.place ≡ places.Bank k → j.entered ≡ true → IsDoneAt k j h after
 done_at k j h after is place left =
-    let behind = done_behind j h after is left in
+    let following = done_after j h after is left in
     let m = is.ended.before.chain.number in
-    let same : m ≡ k = same_bank j.judged.place m k behind.done.place place in
-    let done = subst (λ (i : ℕ). IsDone i h.front after.front (share_of h.pass j.judged.place) j.judged is.ended.result j.reply) same behind.done in
+    let same : m ≡ k = same_bank j.judged.place m k following.done.place place in
+    let done = subst (λ (i : ℕ). IsDoneAtBank i h.front after.front (share_of h.pass j.judged.place) j.judged is.ended.result j.reply) same following.done in
     record {
       status = is.ended.result.status;
       share = share_of h.pass j.judged.place;
@@ -129,14 +129,14 @@ done_at k j h after is place left =
 pub record EndsAtBank (n : Node) (port k : ℕ) (now : History) (o : Open) (reply : List ℕ) (h after : Standing) : Type 0 where
   pub grown : IsPrefix h.front after.front
   pub status : Status
-  pub outcome : IsOutcomeAtButTold n now (Effect port) (Done status reply None)
+  pub outcome : IsOutcomeAtExceptAnswer n now (Effect port) (Done status reply None)
   pub own : entries n (Then now (Effect port) (Done status reply None)) k ≡ entries_of k after.front
   pub more : length (entries_of k after.front) ≡ length (entries n now k) + 1
   pub others : (m : ℕ) → (m ≡ k → ⊥) → entries n (Then now (Effect port) (Done status reply None)) m ≡ entries n now m
 
 pub bank_thus : (n : Node) (port k : ℕ) (bank : BankConfig) (whole : List Link) (now : History) (o : Open) (j : Judging) (s h after : Standing) → slice_get n.banks k ≡ Some bank → IsOwnBank port k bank whole
     → IsNow n port now o j h.pass → o.generation ≡ j.judged.generation → j.judged.port ≡ port → j.judged.place ≡ places.Bank k → j.entered ≡ true → (is : IsBanked j h after)
-    → IsPrefix s.front h.front → IsPrefix after.front whole → IsLeftSoFar (entries n now k) k s → number_at h.pass k ≡ number_at s.pass k
+    → IsPrefix s.front h.front → IsPrefix after.front whole → IsLeftSoFar (entries n now k) k s → next_number_at h.pass k ≡ next_number_at s.pass k
     → EndsAtBank n port k now o j.reply h after
 bank_thus n port k bank whole now o j s h after there own_bank is generation port_is place left banked known begins so_far number =
     let done = done_at k j h after banked place left in
@@ -149,7 +149,7 @@ bank_thus n port k bank whole now o j s h after there own_bank is generation por
     let so_before = own_so_far port k bank before whole own_bank (prefix_trans before after.front whole out begins) in
     let later = own_so_far port k bank after.front whole own_bank begins in
     let last : entries_of k after.front ≡ entries_of k before ++ e ∷ [] = ap (entries_of k) done.log ∙ entry_last k (length (chain_of k before)) done.next before e in
-    let share_number : done.share.number ≡ number_at s.pass k =
+    let share_number : done.share.number ≡ next_number_at s.pass k =
     ap (λ (x : ShareValue). x.number) done.share_is ∙ (ap (λ (x : Place). (share_of h.pass x).number) place ∙ number) in
     let numbers : numbers_of port (entries_of k before) ≡ range_with_len 0 done.share.number =
     subst (λ (q : ℕ). numbers_of q (entries_of k before) ≡ range_with_len 0 done.share.number) port_is done.numbers in
@@ -165,19 +165,19 @@ bank_thus n port k bank whole now o j s h after there own_bank is generation por
     let below_all : length (numbers_of port es) < 2 ^ 64 - 1 = subst (λ (x : ℕ). x < 2 ^ 64 - 1) (sym port_many) (below (length es) bank.room (2 ^ 64) few own_bank.few) in
     let has_place : nat_lt (length es) bank.room ≡ true = grind (arith, nat_tests, below_room) in
     let has_number : nat_lt (length (numbers_of port es)) (2 ^ 64 - 1) ≡ true = grind (arith, nat_tests, below_all) in
-    let room : has_room (slice_get n.banks k) port es ≡ true =
-    ap (λ (b : Option BankConfig). has_room b port es) there ∙ and_from (nat_lt (length es) bank.room) (nat_lt (length (numbers_of port es)) (2 ^ 64 - 1)) has_place has_number in
+    let room : has_entry_room (slice_get n.banks k) port es ≡ true =
+    ap (λ (b : Option BankConfig). has_entry_room b port es) there ∙ and_from (nat_lt (length es) bank.room) (nat_lt (length (numbers_of port es)) (2 ^ 64 - 1)) has_place has_number in
     let memory_is : memory n now k ≡ memory_after k before =
     ap (λ (b : Option BankConfig). replay (first_memory b) es) there ∙ (ap (replay (first_memory (Some bank))) same ∙ sym (so_before.memory (begun_before port k (length (chain_of k before)) done.next bank before after.front whole e own_bank done.log begins))) in
     let answer_is : bank_answer n now k port (command_of o.packet) v ≡ answer_after k before j.judged =
-    ap (λ (m : Memory). answer m (has_room (slice_get n.banks k) port es) (command_of o.packet) v) memory_is
+    ap (λ (m : Memory). answer m (has_entry_room (slice_get n.banks k) port es) (command_of o.packet) v) memory_is
     ∙ (ap (λ (r : Bool). answer (memory_after k before) r (command_of o.packet) v) room ∙ ap (λ (p : Cargo). answer (memory_after k before) true (command_of p) v) (sym is.packet)) in
     let a = bank_answer n now k port (command_of o.packet) v in
     let status_is : done.status ≡ a.status = done.status_is ∙ sym (ap (λ (x : Answer). x.status) answer_is) in
     let reply_is : j.reply ≡ a.reply = done.reply_is ∙ sym (ap (λ (x : Answer). x.reply) answer_is) in
     let lies : place_in n o.packet ≡ Some (places.Bank k) = is.lies ∙ ap (λ (x : Place). Some x) place in
     let lawful : Done done.status j.reply None ≡ effect_outcome n now port (opened now port) =
-    ap (λ (x : Status). Done x j.reply None) status_is ∙ (ap (λ (bytes : List ℕ). Done a.status bytes None) reply_is ∙ sym (effect_told n now port v o (places.Bank k) is.is_open is.stands lies)) in
+    ap (λ (x : Status). Done x j.reply None) status_is ∙ (ap (λ (bytes : List ℕ). Done a.status bytes None) reply_is ∙ sym (effect_reported n now port v o (places.Bank k) is.is_open is.stands lies)) in
     let number_is : length (numbers_of port es) ≡ done.share.number = ap (λ (xs : List EntryValue). length (numbers_of port xs)) same ∙ counted in
     let entry_is : entry_left n port (length (numbers_of port es)) o done.status ≡ e =
     ap (λ (x : ℕ). entry_left n port x o done.status) number_is

@@ -15,9 +15,9 @@ use Rattle.node_parts.specs.Passes.{PassValue}
 use Rattle.node_parts.specs.Served.{EndsAtWindow}
 use Rattle.annals.specs.Chains.{Due}
 use Rattle.target.specs.Loads.{AsksForLoad}
-use Rattle.ports.specs.Due.{Deed, IsBanked, IsDealt, IsJudged, IsWindowed, Judging, Standing, Worked, judgings, stand}
+use Rattle.ports.specs.Due.{Deed, IsBanked, IsDealt, IsJudgedInRun, IsWindowEnd, Judging, Standing, Worked, judgings, stand}
 use Rattle.ports.specs.Due.Deed.{Dropped, Answered, Judged}
-use Rattle.ports.specs.Laws.{loaded_by, with_loaded}
+use Rattle.ports.specs.Laws.{publishes_of_commands, with_loaded}
 use Rattle.lemmas.proofs.Prefixes.{prefix_length}
 
 -- how many programs a command published
@@ -35,10 +35,10 @@ with_length : (loaded : Option Publish) (xs : List Publish) → length (with_loa
 with_length None xs = omega arith
 with_length (Some publish) xs = omega arith
 
-pub loads_first : (d : Deed) (ds : List Deed) → length (loaded_by (judgings (d ∷ ds))) ≡ made_by d + length (loaded_by (judgings ds))
+pub loads_first : (d : Deed) (ds : List Deed) → length (publishes_of_commands (judgings (d ∷ ds))) ≡ made_by d + length (publishes_of_commands (judgings ds))
 loads_first Dropped ds = omega arith
 loads_first (Answered reply) ds = omega arith
-loads_first (Judged j) ds = with_length j.loaded (loaded_by (judgings ds))
+loads_first (Judged j) ds = with_length j.loaded (publishes_of_commands (judgings ds))
 
 -- ---- what is published is what was asked for
 
@@ -100,7 +100,7 @@ share_same h Control share = refl
 pub banked_programs : (j : Judging) (h after : Standing) → IsBanked j h after → after.pass.programs ≡ h.pass.programs
 banked_programs j h after is = ap (λ (x : PassValue). x.programs) is.ended.finished.shares ∙ share_same h.pass j.judged.place is.ended.finished.share
 
-end_grown : (j : Judging) (h after : Standing) → IsBanked j h after ⊎ IsWindowed j h after → length h.pass.programs + made j.loaded ≤ length after.pass.programs
+end_grown : (j : Judging) (h after : Standing) → IsBanked j h after ⊎ IsWindowEnd j h after → length h.pass.programs + made j.loaded ≤ length after.pass.programs
 end_grown j h after (inl is) =
     let none = none_counts j.loaded is.loaded in
     let same = ap length (banked_programs j h after is) in
@@ -108,11 +108,11 @@ end_grown j h after (inl is) =
 end_grown j h after (inr is) =
     window_grown j.judged.place h.pass.port j.loaded h.asked after.asked h.pass after.pass is.old is.new j.judged is.result j.reply is.begins is.asks_for is.ended
 
-pub judged_grown : (j : Judging) (p : Cargo) (h after : Standing) (is : IsJudged j p h after) → length is.between.programs + made j.loaded ≤ length after.pass.programs
+pub judged_grown : (j : Judging) (p : Cargo) (h after : Standing) (is : IsJudgedInRun j p h after) → length is.between.programs + made j.loaded ≤ length after.pass.programs
 judged_grown j p h after is = end_grown j (stand is.between h.asked is.reached) after is.ended
 
 -- the programs that judged go on from those that the port knew
-pub taken_longer : (j : Judging) (p : Cargo) (h after : Standing) (is : IsJudged j p h after) → IsPrefix h.pass.programs is.between.programs
+pub taken_longer : (j : Judging) (p : Cargo) (h after : Standing) (is : IsJudgedInRun j p h after) → IsPrefix h.pass.programs is.between.programs
 taken_longer j p h after is =
     subst (λ (xs : List Publish). IsPrefix h.pass.programs xs) (sym (ap (λ (x : PassValue). x.programs) is.judgement.asked)) is.judgement.taken.longer
 
@@ -124,7 +124,7 @@ dealt_grown (Judged j) p h after is =
     let grown = judged_grown j p h after is in
     omega (arith, more, grown)
 
-pub worked_grown : (h after : Standing) (ps : List Cargo) (ds : List Deed) → Worked h ps ds after → length h.pass.programs + length (loaded_by (judgings ds)) ≤ length after.pass.programs
+pub worked_grown : (h after : Standing) (ps : List Cargo) (ds : List Deed) → Worked h ps ds after → length h.pass.programs + length (publishes_of_commands (judgings ds)) ≤ length after.pass.programs
 worked_grown h after [] [] w = let same = ap (λ (x : Standing). length x.pass.programs) w in omega (arith, same)
 worked_grown h after [] (d ∷ ds) w = absurd w
 worked_grown h after (p ∷ ps) [] w = absurd w

@@ -17,16 +17,16 @@ use Rattle.annals.specs.declared.deed.Link.{Link}
 use Rattle.annals.specs.Banks.{entries_of}
 use Rattle.ports.specs.Due.{Deed, IsDropped, IsUnjudged, Standing}
 use Rattle.ports.specs.Due.Deed.{Dropped, Answered as Replied}
-use Rattle.ports.specs.Laws.{number_at}
+use Rattle.ports.specs.Laws.{next_number_at}
 use Rattle.sched.specs.Agreement.{program_and_generation}
 use Rattle.sched.specs.declared.event.Event.TheVariants.{Take}
 use Rattle.sched.specs.declared.event.Outcome.TheVariants.{Discarded, Answered}
 use Rattle.sched.specs.History.{History, Then, opened}
-use Rattle.sched.specs.Lawful.{IsLawfulButTold, header_outcome, packet_outcome, take_outcome}
+use Rattle.sched.specs.Lawful.{IsLawfulExceptAnswers, header_outcome, packet_outcome, take_outcome}
 use Rattle.sched.specs.Looking.{Node, entries, published, publishes, staging, windows_in}
 use Rattle.lawful.specs.Happenings.{Happening, HappenBy, HappensBy, happened_at, happening}
 use Rattle.lawful.proofs.Keeping.{Keeps, StaysElsewhere, elsewhere_on, happened_here, one_elsewhere, opened_here, staging_here}
-use Rattle.lawful.proofs.Telling.{outcome_here}
+use Rattle.lawful.proofs.Reporting.{outcome_here}
 
 -- what looking back finds published is what judges by that list, which has as many programs
 pub record IsKnown (n : Node) (h : History) (programs : List Publish) : Type 0 where
@@ -37,11 +37,11 @@ pub record IsKnown (n : Node) (h : History) (programs : List Publish) : Type 0 w
 -- the entries are the first that the port's list has of the bank, as many as its share counts
 pub record IsLeftSoFar (es : List EntryValue) (k : ℕ) (s : Standing) : Type 0 where
   pub begin : IsPrefix es (entries_of k s.front)
-  pub number : length es ≡ number_at s.pass k
+  pub number : length es ≡ next_number_at s.pass k
 
 -- a port that judges no command, after that history
 pub record IsIdle (n : Node) (port : ℕ) (start : List Link) (h : History) (s : Standing) : Type 0 where
-  pub lawful : IsLawfulButTold n h
+  pub lawful : IsLawfulExceptAnswers n h
   pub closed : opened h port ≡ None
   pub staging_is : staging n h port ≡ s.pass.staging
   pub known : IsKnown n h s.pass.programs
@@ -62,7 +62,7 @@ pub left_kept : (es fs : List EntryValue) (k : ℕ) (s : Standing) → fs ≡ es
 left_kept es fs k s same left = subst (λ (xs : List EntryValue). IsLeftSoFar xs k s) (sym same) left
 
 -- after events that keep all, a port that is as it was
-idle_kept : (n : Node) (port : ℕ) (start : List Link) (h after : History) (s : Standing) → Keeps n port h after → IsLawfulButTold n after → opened after port ≡ None → IsIdle n port start h s → IsIdle n port start after s
+idle_kept : (n : Node) (port : ℕ) (start : List Link) (h after : History) (s : Standing) → Keeps n port h after → IsLawfulExceptAnswers n after → opened after port ≡ None → IsIdle n port start h s → IsIdle n port start after s
 idle_kept n port start h after s keeps lawful closed idle = record {
   lawful = lawful;
   closed = closed;
@@ -109,7 +109,7 @@ gone_on n port start d ds p ps h s last here rest = record {
 -- a packet that no program judged, as a history goes on by it
 pub record HasPassed (n : Node) (port : ℕ) (d : Deed) (p : Cargo) (h : History) : Type 0 where
   pub after : History
-  pub lawful : IsLawfulButTold n after
+  pub lawful : IsLawfulExceptAnswers n after
   pub closed : opened after port ≡ None
   pub keeps : Keeps n port h after
   pub happened : List Happening
@@ -117,13 +117,13 @@ pub record HasPassed (n : Node) (port : ℕ) (d : Deed) (p : Cargo) (h : History
   pub by : HappensBy d port p happened
 
 -- a packet that is no command
-pub dropped_thus : (n : Node) (port : ℕ) (p : Cargo) (h : History) (s after : Standing) → port < n.ports → IsLawfulButTold n h → opened h port ≡ None → IsDropped p s after → HasPassed n port Dropped p h
+pub dropped_thus : (n : Node) (port : ℕ) (p : Cargo) (h : History) (s after : Standing) → port < n.ports → IsLawfulExceptAnswers n h → opened h port ≡ None → IsDropped p s after → HasPassed n port Dropped p h
 dropped_thus n port p h s after there lawful closed is =
     let o = Discarded is.discard in
-    let told : o ≡ take_outcome n h p (opened h port) = sym (ap (take_outcome n h p) closed ∙ ap (packet_outcome n h p) is.discarded) in
+    let reported : o ≡ take_outcome n h p (opened h port) = sym (ap (take_outcome n h p) closed ∙ ap (packet_outcome n h p) is.discarded) in
     record {
       after = Then h (Take port p) o;
-      lawful = (lawful, outcome_here n h (Take port p) o port refl there told);
+      lawful = (lawful, outcome_here n h (Take port p) o port refl there reported);
       closed = opened_here h (Take port p) o port refl ∙ closed;
       keeps = record {
         programs = λ slot. refl;
@@ -138,16 +138,16 @@ dropped_thus n port p h s after there lawful closed is =
     }
 
 -- a packet that a check of its header answers
-answered_thus : (n : Node) (port : ℕ) (p : Cargo) (reply : List ℕ) (status : Status) (h : History) (s : Standing) → port < n.ports → IsLawfulButTold n h → opened h port ≡ None → s.pass.windows ≡ windows_in n
+answered_thus : (n : Node) (port : ℕ) (p : Cargo) (reply : List ℕ) (status : Status) (h : History) (s : Standing) → port < n.ports → IsLawfulExceptAnswers n h → opened h port ≡ None → s.pass.windows ≡ windows_in n
     → IsStopped (stops.Answered status) p s.pass.windows reply → HasPassed n port (Replied reply) p h
 answered_thus n port p reply status h s there lawful closed windows is =
     let o = Answered status reply in
     let line : header_line (command_of p) (windows_in n) ≡ Some status = ap (header_line (command_of p)) (sym windows) ∙ is.0.stopped in
-    let told : o ≡ take_outcome n h p (opened h port) =
+    let reported : o ≡ take_outcome n h p (opened h port) =
     ap (λ (bytes : List ℕ). Answered status bytes) is.1 ∙ sym (ap (take_outcome n h p) closed ∙ (ap (packet_outcome n h p) is.0.command ∙ ap (header_outcome n h p) line)) in
     record {
       after = Then h (Take port p) o;
-      lawful = (lawful, outcome_here n h (Take port p) o port refl there told);
+      lawful = (lawful, outcome_here n h (Take port p) o port refl there reported);
       closed = opened_here h (Take port p) o port refl ∙ closed;
       keeps = record {
         programs = λ slot. refl;
@@ -164,7 +164,7 @@ answered_thus n port p reply status h s there lawful closed windows is =
 none_some : (a : Option Status) (status : Status) → a ≡ None → a ≡ Some status → ⊥
 none_some a status none some = cc (none, some)
 
-pub replied_thus : (n : Node) (port : ℕ) (p : Cargo) (reply : List ℕ) (h : History) (s after : Standing) → port < n.ports → IsLawfulButTold n h → opened h port ≡ None → s.pass.windows ≡ windows_in n
+pub replied_thus : (n : Node) (port : ℕ) (p : Cargo) (reply : List ℕ) (h : History) (s after : Standing) → port < n.ports → IsLawfulExceptAnswers n h → opened h port ≡ None → s.pass.windows ≡ windows_in n
     → (status : Status) × (header_line (command_of p) (windows_in n) ≡ Some status) → IsUnjudged reply p s after → HasPassed n port (Replied reply) p h
 replied_thus n port p reply h s after there lawful closed windows full is =
     elim is.answered [

@@ -1,6 +1,6 @@
 mod Turning
 mod Keeping
-mod Telling
+mod Reporting
 mod Owning
 mod Growing
 mod Idling

@@ -43,8 +43,8 @@ use Rattle.sched.specs.declared.event.Event.TheVariants.{Effect, Publish as Publ
 use Rattle.sched.specs.declared.event.Outcome.{Outcome}
 use Rattle.sched.specs.declared.event.Outcome.TheVariants.{Done}
 use Rattle.sched.specs.History.{History, Then, Open, opened, port_of}
-use Rattle.sched.specs.Lawful.{IsControlled, IsPublishedAt, IsPublishedBy, IsPublishOutcome, IsOutcomeAtButTold, done, effect_at_place, effect_at_turn, effect_outcome}
-use Rattle.sched.specs.Looking.{Node, counted, entries, entries_at, entries_behind, for_slot, loaded_by, place_in, program_loaded, published, published_at, published_behind, publishes, staged_at, staged_behind, staging, turn_of}
+use Rattle.sched.specs.Lawful.{IsControlled, IsPublishedAt, IsPublishedBy, IsPublishOutcome, IsOutcomeAtExceptAnswer, done, effect_at_place, effect_at_turn, effect_outcome}
+use Rattle.sched.specs.Looking.{Node, counted_publish, entries, entries_at, entries_after, for_slot, loaded_by, place_in, program_loaded, published, published_at, published_after_count, publishes, staged_at, staged_after, staging, turn_of}
 use Rattle.lawful.specs.Alone.{IsRefusedForStaged}
 use Rattle.lawful.specs.Happenings.{ending}
 use Rattle.lawful.proofs.Growing.{made as programs_made, none_made, one_made}
@@ -54,32 +54,32 @@ use Rattle.lemmas.proofs.Prefixes.{prefix_whole}
 -- ---- what is told
 
 -- if a command of the port has its verdict, its end by an Effect is by its place
-pub effect_told : (n : Node) (h : History) (port verdict : ℕ) (o : Open) (place : Place) → opened h port ≡ Some o → turn_of n port o ≡ Some (turns.Verdict verdict) → place_in n o.packet ≡ Some place
+pub effect_reported : (n : Node) (h : History) (port verdict : ℕ) (o : Open) (place : Place) → opened h port ≡ Some o → turn_of n port o ≡ Some (turns.Verdict verdict) → place_in n o.packet ≡ Some place
     → effect_outcome n h port (opened h port) ≡ effect_at_place n h port (command_of o.packet) verdict (Some place)
-effect_told n h port verdict o place is stands lies =
+effect_reported n h port verdict o place is stands lies =
     ap (effect_outcome n h port) is ∙ (ap (effect_at_turn n h port o) stands ∙ ap (effect_at_place n h port (command_of o.packet) verdict) lies)
 
 -- and its end by a Publish, at a control write, is by what stops it
-pub publish_told : (n : Node) (h : History) (port verdict : ℕ) (o : Open) (outcome : Outcome) → opened h port ≡ Some o → turn_of n port o ≡ Some (turns.Verdict verdict) → place_in n o.packet ≡ Some places.Control
+pub publish_reported : (n : Node) (h : History) (port verdict : ℕ) (o : Open) (outcome : Outcome) → opened h port ≡ Some o → turn_of n port o ≡ Some (turns.Verdict verdict) → place_in n o.packet ≡ Some places.Control
     → IsControlled n h port (command_of o.packet) (judged_line (command_of o.packet) verdict) outcome → IsPublishOutcome n h port (opened h port) outcome
-publish_told n h port verdict o outcome is stands lies told =
+publish_reported n h port verdict o outcome is stands lies reported =
     subst (λ (last : Option Open). IsPublishOutcome n h port last outcome) (sym is)
     (subst (λ (turn : Option Turn). IsPublishedBy n h port o turn outcome) (sym stands)
-    (subst (λ (place : Option Place). IsPublishedAt n h port (command_of o.packet) verdict place outcome) (sym lies) told))
+    (subst (λ (place : Option Place). IsPublishedAt n h port (command_of o.packet) verdict place outcome) (sym lies) reported))
 
 -- the entries of each bank after a command that was done at that place
 pub entries_done : (n : Node) (h : History) (event : Event) (status : Status) (reply : List ℕ) (loaded : Option (List ℕ)) (o : Open) (place : Option Place) → opened h (port_of event) ≡ Some o → place_in n o.packet ≡ place
     → (k : ℕ) → entries n (Then h event (Done status reply loaded)) k ≡ entries_at n k (port_of event) place o status (entries n h k)
 entries_done n h event status reply loaded o place is lies k =
-    ap (λ (last : Option Open). entries_behind n k (port_of event) last status (entries n h k)) is ∙ ap (λ (p : Option Place). entries_at n k (port_of event) p o status (entries n h k)) lies
+    ap (λ (last : Option Open). entries_after n k (port_of event) last status (entries n h k)) is ∙ ap (λ (p : Option Place). entries_at n k (port_of event) p o status (entries n h k)) lies
 
 -- ---- what is known
 
 -- after an event that published nothing the same is published
 pub quiet_known : (n : Node) (h : History) (e : Event) (o : Outcome) (programs later : List Publish) → published_at n h e o ≡ None → later ≡ programs → IsKnown n h programs → IsKnown n (Then h e o) later
 quiet_known n h e o programs later none same known = subst (λ (xs : List Publish). IsKnown n (Then h e o) xs) (sym same) (record {
-  shown = λ slot. known.shown slot ∙ ap (λ (x : Option (ℕ × Program)). Some (published_behind x (publishes n h) slot (published n h slot))) (sym none);
-  count = known.count ∙ ap (λ (x : Option (ℕ × Program)). counted x (publishes n h) + 1) (sym none);
+  shown = λ slot. known.shown slot ∙ ap (λ (x : Option (ℕ × Program)). Some (published_after_count x (publishes n h) slot (published n h slot))) (sym none);
+  count = known.count ∙ ap (λ (x : Option (ℕ × Program)). counted_publish x (publishes n h) + 1) (sym none);
   sizes = known.sizes;
 })
 
@@ -105,8 +105,8 @@ made_known next n h e o old new slot a made more known =
     let some : 0 < length old = let count = known.count in omega (arith, count) in
     let generation : length old ≡ publishes n h + 1 = known.count in
     subst (λ (xs : List Publish). IsKnown n (Then h e o) xs) (sym more) (record {
-      shown = λ k. ap (option_map program_and_generation) (next old slot a k some) ∙ (by k generation (slot == k) ∙ ap (λ (x : Option (ℕ × Program)). Some (published_behind x (publishes n h) k (published n h k))) (sym made));
-      count = length-append old (entry slot a ∷ []) ∙ (ap (λ (x : ℕ). x + 1) generation ∙ ap (λ (x : Option (ℕ × Program)). counted x (publishes n h) + 1) (sym made));
+      shown = λ k. ap (option_map program_and_generation) (next old slot a k some) ∙ (by k generation (slot == k) ∙ ap (λ (x : Option (ℕ × Program)). Some (published_after_count x (publishes n h) k (published n h k))) (sym made));
+      count = length-append old (entry slot a ∷ []) ∙ (ap (λ (x : ℕ). x + 1) generation ∙ ap (λ (x : Option (ℕ × Program)). counted_publish x (publishes n h) + 1) (sym made));
       sizes = sizes_longer old (entry slot a) some ∙ known.sizes;
     })
   where
@@ -122,8 +122,8 @@ made_known next n h e o old new slot a made more known =
 pub record EndsThus (n : Node) (port : ℕ) (now : History) (o : Open) (e : Event) (reply : List ℕ) (old after : PassValue) : Type 0 where
   pub status : Status
   pub loaded : Option (List ℕ)
-  pub outcome : IsOutcomeAtButTold n now e (Done status reply loaded)
-  pub staging_is : staged_behind n (Some o) status loaded old.staging ≡ after.staging
+  pub outcome : IsOutcomeAtExceptAnswer n now e (Done status reply loaded)
+  pub staging_is : staged_after n (Some o) status loaded old.staging ≡ after.staging
   pub known : IsKnown n (Then now e (Done status reply loaded)) after.programs
   pub banks : (k : ℕ) → entries n (Then now e (Done status reply loaded)) k ≡ entries n now k
 
@@ -151,13 +151,13 @@ module _ (n : Node) (port : ℕ) (now : History) (o : Open) (j : Judging) (old :
       → effect_at_place n now port (command_of o.packet) j.judged.verdict (Some place) ≡ done (answer_at_place place old.staging j.judged)
       → staged_at (Some place) (answer_at_place place old.staging j.judged).status (command_of o.packet) old.staging ≡ after_place place old.staging j.judged
       → EndsThus n port now o (Effect port) reply old after
-  staged_thus place at after result reply end programs quiet told staging_told =
+  staged_thus place at after result reply end programs quiet reported staging_reported =
       let lies : place_in n o.packet ≡ Some place = is.lies ∙ ap (λ (x : Place). Some x) at in
       let a = answer_at_place place old.staging j.judged in
       let status : result ≡ a.status = end.staged.status ∙ ap (λ (x : Place). (answer_at_place x old.staging j.judged).status) at in
       let reply_is : reply ≡ a.reply = end.staged.reply ∙ ap (λ (x : Place). (answer_at_place x old.staging j.judged).reply) at in
       let lawful : Done result reply None ≡ effect_outcome n now port (opened now port) =
-      ap (λ (s : Status). Done s reply None) status ∙ (ap (λ (bytes : List ℕ). Done a.status bytes None) reply_is ∙ sym (effect_told n now port j.judged.verdict o place is.is_open is.stands lies ∙ told)) in
+      ap (λ (s : Status). Done s reply None) status ∙ (ap (λ (bytes : List ℕ). Done a.status bytes None) reply_is ∙ sym (effect_reported n now port j.judged.verdict o place is.is_open is.stands lies ∙ reported)) in
       record {
         status = result;
         loaded = None;
@@ -165,7 +165,7 @@ module _ (n : Node) (port : ℕ) (now : History) (o : Open) (j : Judging) (old :
         staging_is =
             ap (λ (x : Option Place). staged_at x result (command_of o.packet) old.staging) lies
             ∙ (ap (λ (s : Status). staged_at (Some place) s (command_of o.packet) old.staging) status
-            ∙ (staging_told ∙ sym (end.staged.staging ∙ ap (λ (x : Place). after_place x old.staging j.judged) at)));
+            ∙ (staging_reported ∙ sym (end.staged.staging ∙ ap (λ (x : Place). after_place x old.staging j.judged) at)));
         known = quiet_known n now (Effect port) (Done result reply None) old.programs after.programs refl programs is.known;
         banks = λ k. entries_done n now (Effect port) result reply None o (Some place) is.is_open lies k ∙ quiet k result (entries n now k);
       }
@@ -175,13 +175,13 @@ module _ (n : Node) (port : ℕ) (now : History) (o : Open) (j : Judging) (old :
       → reply ≡ reply_of (command_of o.packet) result [] → EndsThus n port now o (Publishes port) reply old after
   stopped_thus at status line after result reply result_is same reply_is =
       let lies : place_in n o.packet ≡ Some places.Control = is.lies ∙ ap (λ (x : Place). Some x) at in
-      let told : Done result reply None ≡ Done status (reply_of (command_of o.packet) status []) None =
+      let reported : Done result reply None ≡ Done status (reply_of (command_of o.packet) status []) None =
       ap (λ (bytes : List ℕ). Done result bytes None) reply_is ∙ ap (λ (s : Status). Done s (reply_of (command_of o.packet) s []) None) result_is in
       record {
         status = result;
         loaded = None;
-        outcome = publish_told n now port j.judged.verdict o (Done result reply None) is.is_open is.stands lies
-            (subst (λ (x : Option Status). IsControlled n now port (command_of o.packet) x (Done result reply None)) (sym line) told);
+        outcome = publish_reported n now port j.judged.verdict o (Done result reply None) is.is_open is.stands lies
+            (subst (λ (x : Option Status). IsControlled n now port (command_of o.packet) x (Done result reply None)) (sym line) reported);
         staging_is = ap (λ (x : Option Place). staged_at x result (command_of o.packet) old.staging) lies ∙ sym (ap (λ (x : PassValue). x.staging) same);
         known = quiet_known n now (Publishes port) (Done result reply None) old.programs after.programs refl (ap (λ (x : PassValue). x.programs) same) is.known;
         banks = λ k. entries_done n now (Publishes port) result reply None o (Some places.Control) is.is_open lies k;
@@ -205,7 +205,7 @@ module _ (n : Node) (port : ℕ) (now : History) (o : Open) (j : Judging) (old :
       (subst (λ (x : ℕ). IsLoad (control_of (command_of j.judged.packet).body) old.staging.bytes (sizes_of before) x (loads.Published it.slot it.program)) count it.load))) in
       let loaded = published_result end.generation in
       let generation : end.generation ≡ publishes n now + 1 = it.place ∙ count in
-      let told : Done result reply (Some loaded) ≡ Done Success (reply_of c Success []) (Some (published_result (publishes n now + 1))) =
+      let reported : Done result reply (Some loaded) ≡ Done Success (reply_of c Success []) (Some (published_result (publishes n now + 1))) =
       ap (λ (bs : List ℕ). Done result bs (Some loaded)) reply_is
       ∙ (ap (λ (s : Status). Done s (reply_of c s []) (Some loaded)) end.status ∙ ap (λ (x : ℕ). Done Success (reply_of c Success []) (Some (published_result x))) generation) in
       let success : Done result reply (Some loaded) ≡ Done Success reply (Some loaded) = ap (λ (s : Status). Done s reply (Some loaded)) end.status in
@@ -215,8 +215,8 @@ module _ (n : Node) (port : ℕ) (now : History) (o : Open) (j : Judging) (old :
       record {
         status = result;
         loaded = Some loaded;
-        outcome = publish_told n now port j.judged.verdict o (Done result reply (Some loaded)) is.is_open is.stands lies
-            (subst (λ (x : Option Status). IsControlled n now port c x (Done result reply (Some loaded))) (sym line) (record { load = loads.Published it.slot it.program; decides = load; told = told }));
+        outcome = publish_reported n now port j.judged.verdict o (Done result reply (Some loaded)) is.is_open is.stands lies
+            (subst (λ (x : Option Status). IsControlled n now port c x (Done result reply (Some loaded))) (sym line) (record { load = loads.Published it.slot it.program; decides = load; reported = reported }));
         staging_is = sym (ap (λ (x : PassValue). x.staging) end.holder_after);
         known = made_known next n now (Publishes port) (Done result reply (Some loaded)) before after.programs it.slot it.program made (it.learnt ∙ it.extends) before_known;
         banks = λ k. entries_done n now (Publishes port) result reply (Some loaded) o (Some places.Control) is.is_open lies k;
@@ -239,15 +239,15 @@ module _ (n : Node) (port : ℕ) (now : History) (o : Open) (j : Judging) (old :
       let loaded = refused_result why.refusal in
       let staging_after : after.staging ≡ staged old.staging.bytes (refused_result end.refusal) = ap (λ (x : PassValue). x.staging) end.holder_after in
       let same_result : refused_result end.refusal ≡ loaded =
-      sym (ap (λ (s : Staged). s.load_result) staging_after) ∙ (ap (λ (x : PassValue). x.staging.load_result) (sym last_is) ∙ why.told) in
+      sym (ap (λ (s : Staged). s.load_result) staging_after) ∙ (ap (λ (x : PassValue). x.staging.load_result) (sym last_is) ∙ why.reported) in
       let failed : Done result reply (Some loaded) ≡ Done GeneralError reply (Some loaded) = ap (λ (s : Status). Done s reply (Some loaded)) end.status in
-      let told : Done result reply (Some loaded) ≡ Done GeneralError (reply_of c GeneralError []) (Some loaded) =
+      let reported : Done result reply (Some loaded) ≡ Done GeneralError (reply_of c GeneralError []) (Some loaded) =
       ap (λ (bs : List ℕ). Done result bs (Some loaded)) reply_is ∙ ap (λ (s : Status). Done s (reply_of c s []) (Some loaded)) end.status in
       record {
         status = result;
         loaded = Some loaded;
-        outcome = publish_told n now port j.judged.verdict o (Done result reply (Some loaded)) is.is_open is.stands lies
-            (subst (λ (x : Option Status). IsControlled n now port c x (Done result reply (Some loaded))) (sym line) (record { load = loads.Refused why.refusal; decides = inl unprepared; told = told }));
+        outcome = publish_reported n now port j.judged.verdict o (Done result reply (Some loaded)) is.is_open is.stands lies
+            (subst (λ (x : Option Status). IsControlled n now port c x (Done result reply (Some loaded))) (sym line) (record { load = loads.Refused why.refusal; decides = inl unprepared; reported = reported }));
         staging_is = sym (staging_after ∙ ap (staged old.staging.bytes) same_result);
         known = quiet_known n now (Publishes port) (Done result reply (Some loaded)) old.programs after.programs (ap (published_at n now (Publishes port)) failed) (ap (λ (x : PassValue). x.programs) end.holder_after) is.known;
         banks = λ k. entries_done n now (Publishes port) result reply (Some loaded) o (Some places.Control) is.is_open lies k;

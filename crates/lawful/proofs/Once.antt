@@ -18,9 +18,9 @@ use Rattle.sched.specs.declared.event.Outcome.{Outcome}
 use Rattle.sched.specs.declared.event.Outcome.TheVariants.{Refused, Discarded, Answered, Taken, Told, Done}
 use Rattle.sched.specs.Headline.{AreJudgedOnce, BringsBytes, EveryHistoryJudgesOnce, HasBytes, IsJudgedOnceIfDone, IsNode}
 use Rattle.sched.specs.History.{History, Start, Then, port_of}
-use Rattle.sched.specs.Lawful.{IsLawfulButTold}
+use Rattle.sched.specs.Lawful.{IsLawfulExceptAnswers}
 use Rattle.sched.specs.Looking.{Node}
-use Rattle.lawful.specs.Happenings.{Happening, HappenBy, HappensBy, ending, happened_at, happening, told_calls}
+use Rattle.lawful.specs.Happenings.{Happening, HappenBy, HappensBy, ending, happened_at, happening, answered_calls}
 use Rattle.lawful.specs.Once.{ThreadsJudgeOnce}
 use Rattle.lawful.specs.Together.{ThreadsAreLawful}
 use Rattle.lawful.proofs.Keeping.{happened_here}
@@ -59,17 +59,17 @@ ending_brings places.Staging port = tt
 ending_brings places.LoadResult port = tt
 ending_brings places.Control port = tt
 
-told_bring : (port : ℕ) (calls : List Call) → AllBring (told_calls port calls)
-told_bring port [] = tt
-told_bring port (c ∷ calls) = (answering_brings c.question.helper port, told_bring port calls)
+answered_bring : (port : ℕ) (calls : List Call) → AllBring (answered_calls port calls)
+answered_bring port [] = tt
+answered_bring port (c ∷ calls) = (answering_brings c.question.helper port, answered_bring port calls)
 
 thus : (d : Deed) (port : ℕ) (p : Cargo) (happened : List Happening) → AreBytes p → HappensBy d port p happened → AllBring happened
 thus Dropped port p happened bytes is = subst AllBring (sym is.1) (bytes, tt)
 thus (Replied reply) port p happened bytes is = subst AllBring (sym is.1) (bytes, tt)
 thus (Judged j) port p happened bytes is =
-    let taken : List Happening = happening (Take port p) (Taken j.judged.generation) ∷ told_calls port j.calls in
+    let taken : List Happening = happening (Take port p) (Taken j.judged.generation) ∷ answered_calls port j.calls in
     let done : List Happening = happening (ending j.judged.place port) (Done is.status j.reply is.loaded) ∷ [] in
-    let taken_bring : AllBring taken = (bytes, told_bring port j.calls) in
+    let taken_bring : AllBring taken = (bytes, answered_bring port j.calls) in
     let done_bring : AllBring done = (ending_brings j.judged.place port, tt) in
     subst AllBring (sym is.is) (bring_append taken done taken_bring done_bring)
 
@@ -91,15 +91,15 @@ has_bytes (Then h e o) all =
     rest q true bring = bring_front (happened_at q h) (happening e o ∷ []) bring
     rest q false bring = bring
 
-once_if_done : EveryHistoryJudgesOnce → (n : Node) (h : History) (e : Event) (o : Outcome) → IsNode n → HasBytes h → IsLawfulButTold n (Then h e o) → IsJudgedOnceIfDone n h e o
+once_if_done : EveryHistoryJudgesOnce → (n : Node) (h : History) (e : Event) (o : Outcome) → IsNode n → HasBytes h → IsLawfulExceptAnswers n (Then h e o) → IsJudgedOnceIfDone n h e o
 once_if_done law n h e Refused node bytes lawful = tt
 once_if_done law n h e (Discarded discard) node bytes lawful = tt
 once_if_done law n h e (Answered status reply) node bytes lawful = tt
 once_if_done law n h e (Taken generation) node bytes lawful = tt
-once_if_done law n h e (Told told) node bytes lawful = tt
+once_if_done law n h e (Told reported) node bytes lawful = tt
 once_if_done law n h e (Done status reply loaded) node bytes lawful = law n h e status reply loaded node bytes lawful
 
-all_once : EveryHistoryJudgesOnce → (n : Node) (h : History) → IsNode n → HasBytes h → IsLawfulButTold n h → AreJudgedOnce n h
+all_once : EveryHistoryJudgesOnce → (n : Node) (h : History) → IsNode n → HasBytes h → IsLawfulExceptAnswers n h → AreJudgedOnce n h
 all_once law n Start node bytes lawful = tt
 all_once law n (Then h e o) node bytes lawful = (all_once law n h node bytes.0 lawful.0, once_if_done law n h e o node bytes.0 lawful)
 

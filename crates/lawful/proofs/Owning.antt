@@ -14,7 +14,7 @@ use Rattle.annals.specs.Banks.{after_deed, after_link, entries_in, entries_of, m
 use Rattle.annals.specs.Chains.{chain_of, link}
 use Rattle.node_parts.specs.declared.config.BankConfig.{BankConfig}
 use Rattle.sched.specs.Looking.{first_memory}
-use Rattle.lawful.specs.Alone.{AreEntriesOf, IsEntryOf, IsOwnBank, IsOwnChain}
+use Rattle.lawful.specs.Alone.{AreDeedsOf, IsDeedOf, IsOwnBank, IsOwnChain}
 use Rattle.lawful.proofs.Keeping.{itself}
 
 -- ---- lists
@@ -67,7 +67,7 @@ record IsThatEntry (port : ℕ) (d : Deed) : Type 0 where
   is : d ≡ Does (Leaves entry)
   own : entry.port ≡ port
 
-that_entry : (port : ℕ) (d : Deed) → IsEntryOf port d → IsThatEntry port d
+that_entry : (port : ℕ) (d : Deed) → IsDeedOf port d → IsThatEntry port d
 that_entry port (Opens x) is = absurd is
 that_entry port (Does (Leaves e)) is = record { entry = e; is = refl; own = is }
 that_entry port (Does (Sets x)) is = absurd is
@@ -76,19 +76,19 @@ that_entry port (Does (Publishes x)) is = absurd is
 that_entry port (Asks x) is = absurd is
 that_entry port Shows is = absurd is
 
-own_front : (port : ℕ) (xs ys : List Link) → AreEntriesOf port (xs ++ ys) → AreEntriesOf port xs
+own_front : (port : ℕ) (xs ys : List Link) → AreDeedsOf port (xs ++ ys) → AreDeedsOf port xs
 own_front port [] ys own = tt
 own_front port (x ∷ xs) ys own = (own.0, own_front port xs ys own.1)
 
 -- as many entries as deeds
-own_count : (port : ℕ) (ls : List Link) → AreEntriesOf port ls → length (entries_in ls) ≡ length ls
+own_count : (port : ℕ) (ls : List Link) → AreDeedsOf port ls → length (entries_in ls) ≡ length ls
 own_count port [] own = refl
 own_count port (l ∷ ls) own =
     let that = that_entry port l.deed own.0 in
     ap (λ (d : Deed). length (with_entry d (entries_in ls))) that.is ∙ ap suc (own_count port ls own.1)
 
 -- all of them are the port's
-own_numbers : (port : ℕ) (ls : List Link) → AreEntriesOf port ls → length (numbers_of port (entries_in ls)) ≡ length (entries_in ls)
+own_numbers : (port : ℕ) (ls : List Link) → AreDeedsOf port ls → length (numbers_of port (entries_in ls)) ≡ length (entries_in ls)
 own_numbers port [] own = refl
 own_numbers port (l ∷ ls) own =
     let that = that_entry port l.deed own.0 in
@@ -100,7 +100,7 @@ own_numbers port (l ∷ ls) own =
     ∙ (first ∙ (ap suc (own_numbers port ls own.1) ∙ sym (ap (λ (d : Deed). length (with_entry d es)) that.is)))
 
 -- what they leave of a memory is their replay
-own_replay : (port : ℕ) (m : Memory) (ls : List Link) → AreEntriesOf port ls → fold after_link m ls ≡ replay m (entries_in ls)
+own_replay : (port : ℕ) (m : Memory) (ls : List Link) → AreDeedsOf port ls → fold after_link m ls ≡ replay m (entries_in ls)
 own_replay port m [] own = refl
 own_replay port m (l ∷ ls) own =
     let that = that_entry port l.deed own.0 in
@@ -128,7 +128,7 @@ own_so_far port k bank before whole is begins = let q = chain_prefix k before wh
         }
     by rest all (l ∷ ls) here =
         let chain : IsOwnChain port bank (l ∷ (ls ++ rest)) = subst (IsOwnChain port bank) (sym all ∙ ap (λ (xs : List Link). xs ++ rest) here) is.chain in
-        let own : AreEntriesOf port ls = own_front port ls rest chain.1 in
+        let own : AreDeedsOf port ls = own_front port ls rest chain.1 in
         let entries : entries_of k before ≡ entries_in ls = ap entries_in here ∙ ap (λ (d : Deed). with_entry d (entries_in ls)) chain.0 in
         let count : length (entries_of k before) ≡ length ls = ap length entries ∙ own_count port ls own in
         let size : length (ls ++ rest) ≡ length ls + length rest = length-append ls rest in

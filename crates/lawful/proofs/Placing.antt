@@ -14,7 +14,7 @@ use Rattle.annals.specs.Chains.{Due, done_for, owner_of}
 use Rattle.annals.specs.Publishes.{publishes_chain, publishes_of}
 use Rattle.target.specs.Loads.{AsksForLoad}
 use Rattle.spw.specs.Cargo.{Cargo}
-use Rattle.ports.specs.Due.{Deed as Dealt, IsJudged, IsWindowed, Judging, Standing, Worked, stand}
+use Rattle.ports.specs.Due.{Deed as Dealt, IsJudgedInRun, IsWindowEnd, Judging, Standing, Worked, stand}
 use Rattle.ports.specs.Due.Deed.{Dropped, Answered, Judged}
 use Rattle.lawful.proofs.Links.{IsNoneOf, count_published, done_append, done_joined, does, none_asks, none_opens, none_other, none_shows, published_one, published_prefix}
 use Rattle.lemmas.proofs.Prefixes.{prefix_self, prefix_trans, prefix_whole}
@@ -132,9 +132,9 @@ pub record IsPlaced (port : ℕ) (whole known : List Link) (old : List Publish) 
   pub met : publishes_of before ≡ old
 
 -- what a command published, if it did, is at its place in the list
-abbrev pub IsLoadPlaced : (port : ℕ) (whole : List Link) (j : Judging) (p : Cargo) (h after : Standing) → IsJudged j p h after → Type 0
+abbrev pub IsLoadPlaced : (port : ℕ) (whole : List Link) (j : Judging) (p : Cargo) (h after : Standing) → IsJudgedInRun j p h after → Type 0
 IsLoadPlaced port whole j p h after is =
-    (publish : Publish) (windowed : IsWindowed j (stand is.between h.asked is.reached) after)
+    (publish : Publish) (windowed : IsWindowEnd j (stand is.between h.asked is.reached) after)
     → j.loaded ≡ Some publish → IsPlaced port whole is.reached windowed.old publish
 
 -- the same of what became of some packets

@@ -20,7 +20,7 @@ use Rattle.brun.specs.Runs.{header}
 use Rattle.brun.specs.declared.turns.Turn.{Turn}
 use Rattle.bank.specs.Admission.{IsPlacedBy}
 use Rattle.bank.specs.Answer.{answer, effect_at, is_success, judged_line, status_with}
-use Rattle.bank.specs.Effect.{Memory, effect, effect_of, memory_at}
+use Rattle.bank.specs.Effect.{Memory, effect, command_effect_of, memory_at}
 use Rattle.bank.specs.Records.{BankValue, EntryValue, IsBank, JudgedValue, after_command, checked_entry, entry_of, first_share, memory_of, replay}
 use Rattle.node_programs.specs.Published.{judging_program}
 use Rattle.node_programs.specs.Staged.{Staged, staged}
@@ -42,24 +42,24 @@ use Rattle.annals.specs.Publishes.{publishes_chain, publishes_of}
 use Rattle.annals.specs.Rule.{showing}
 use Rattle.annals.specs.Shown.{AreListed, shown_in}
 use Rattle.target.specs.Finished.{IsFinishedAt}
-use Rattle.ports.specs.Due.{IsJudged, IsUnjudged, Standing, Worked, stand}
+use Rattle.ports.specs.Due.{IsJudgedInRun, IsUnjudged, Standing, Worked, stand}
 use Rattle.ports.specs.Due.Deed.{Answered as Replied, Judged}
-use Rattle.ports.specs.Laws.{number_at}
+use Rattle.ports.specs.Laws.{next_number_at}
 use Rattle.sched.specs.Agreement.{program_and_generation}
 use Rattle.sched.specs.declared.event.Event.TheVariants.{Take, Effect as EffectEvent, Publish as PublishEvent}
 use Rattle.sched.specs.declared.event.Outcome.{Outcome}
 use Rattle.sched.specs.declared.event.Outcome.TheVariants.{Refused, Answered, Taken, Done}
 use Rattle.sched.specs.History.{History, Start, Then, Open, opened, taken}
-use Rattle.sched.specs.Lawful.{IsControlled, IsLawfulButTold, done, effect_at_place, header_outcome, packet_outcome, take_outcome}
-use Rattle.sched.specs.Looking.{Node, counted, entered, entries, first_memory, has_room, header_in, published, published_at, published_behind, publishes, slot_at, slot_of_packet, staged_at, staging, verdict_at, windows_in}
+use Rattle.sched.specs.Lawful.{IsControlled, IsLawfulExceptAnswers, done, effect_at_place, header_outcome, packet_outcome, take_outcome}
+use Rattle.sched.specs.Looking.{Node, counted_publish, entered, entries, first_memory, has_entry_room, seen_header_in, published, published_at, published_after_count, publishes, slot_at, slot_of_packet, staged_at, staging, verdict_at, windows_in}
 use Rattle.lawful.specs.Alone.{IsFreshPort}
 use Rattle.lawful.specs.Happenings.{HappenBy, happened_at, happening}
-use Rattle.lawful.specs.Sample.{HasSampleHistory, IsSample, Sample, SampleIsLawful, WrongOnesAreRefused, entry_link, factory_link, factory_publish, first_pass, judged_yes, list_at_first, list_at_load, list_before_entry, load_judging, load_link, load_publish, loaded_alone, loaded_history, opening_link, pass_entered, pass_loaded, pass_staged, read_judging, sample_accounts, sample_bank, sample_history, sample_list, sample_node, sample_staging, stage_judging, staged_history, taken_history, wrong_reply}
-use Rattle.lawful.specs.Together.{AreServedTogether, IsBankOf, IsServedBeside}
+use Rattle.lawful.specs.Sample.{HasSampleHistory, IsSample, Sample, SampleIsLawful, WrongOnesAreRefused, entry_link, factory_link, factory_publish, sample_first_pass, judged_yes, list_at_first, list_at_load, list_before_entry, load_judging, load_link, load_publish, loaded_alone, loaded_history, opening_link, pass_entered, pass_loaded, pass_staged, read_judging, sample_accounts, sample_bank, sample_history, sample_list, sample_node, sample_staging, stage_judging, staged_history, taken_history, wrong_reply}
+use Rattle.lawful.specs.Together.{AreServedTogether, IsBankOfPorts, IsServedBeside}
 use Rattle.lawful.proofs.Keeping.{happened_elsewhere, opened_elsewhere}
 use Rattle.lawful.proofs.Links.{done_same, none_opens, none_other, none_shows, size_more}
-use Rattle.lawful.proofs.Loading.{effect_told, entries_done, loaded_program, publish_told}
-use Rattle.lawful.proofs.Telling.{outcome_here}
+use Rattle.lawful.proofs.Loading.{effect_reported, entries_done, loaded_program, publish_reported}
+use Rattle.lawful.proofs.Reporting.{outcome_here}
 use Rattle.lemmas.proofs.Prefixes.{prefix_same, prefix_shorter, prefix_whole}
 
 -- ---- small facts
@@ -126,7 +126,7 @@ read_keeps : (m : Memory) (c : CommandValue) (status : Status) → command_kind 
 read_keeps m c status is = by (is_success status)
   where
     by : (b : Bool) → (if b then effect m c else record { memory = m; reply = [] }).memory ≡ m
-    by true = ap (λ (k : Kind). (effect_of k m c).memory) is
+    by true = ap (λ (k : Kind). (command_effect_of k m c).memory) is
     by false = refl
 
 module _ (images : ImagesAreRead) (x : Sample) (is : IsSample x) where
@@ -154,7 +154,7 @@ module _ (images : ImagesAreRead) (x : Sample) (is : IsSample x) where
   }
 
   abbrev stage_first : Standing
-  stage_first = stand (first_pass x 0) [] []
+  stage_first = stand (sample_first_pass x 0) [] []
 
   abbrev stage_last : Standing
   stage_last = stand (pass_staged x) [] (list_at_first x)
@@ -162,12 +162,12 @@ module _ (images : ImagesAreRead) (x : Sample) (is : IsSample x) where
   abbrev load_last : Standing
   load_last = stand (pass_loaded x) ((publishes_chain, Publishes (0, load_publish x)) ∷ []) (list_at_load x)
 
-  abbrev stage_is : IsJudged (stage_judging x) x.stage stage_first stage_last
+  abbrev stage_is : IsJudgedInRun (stage_judging x) x.stage stage_first stage_last
   stage_is = record {
-    between = pass_after (first_pass x 0) (factory_publish x ∷ []) [];
+    between = pass_after (sample_first_pass x 0) (factory_publish x ∷ []) [];
     reached = list_at_first x;
     moment = record { at = list_at_first x; after = (list_at_first x, refl); before = ([], refl); seen = refl };
-    judgement = judged (first_pass x 0) x.stage places.Staging refl refl is.stage;
+    judgement = judged (sample_first_pass x 0) x.stage places.Staging refl refl is.stage;
     program = refl;
     calls = refl;
     ended = inr (record {
@@ -194,7 +194,7 @@ module _ (images : ImagesAreRead) (x : Sample) (is : IsSample x) where
           load = (is.prepared, omega arith);
           extends = refl;
           place = refl;
-          told = ([], refl);
+          reported = ([], refl);
           keeps = (load_publish x ∷ [], refl);
           learnt = refl;
         };
@@ -202,7 +202,7 @@ module _ (images : ImagesAreRead) (x : Sample) (is : IsSample x) where
         holder_after = refl;
       }))
 
-  abbrev load_is : IsJudged (load_judging x) x.load stage_last load_last
+  abbrev load_is : IsJudgedInRun (load_judging x) x.load stage_last load_last
   load_is = record {
     between = pass_after (pass_staged x) (factory_publish x ∷ []) [];
     reached = list_at_first x;
@@ -234,11 +234,11 @@ module _ (images : ImagesAreRead) (x : Sample) (is : IsSample x) where
   abbrev worked_at_0 : Worked stage_first (x.stage ∷ x.load ∷ []) (Judged (stage_judging x) ∷ Judged (load_judging x) ∷ []) load_last
   worked_at_0 = (stage_last, stage_is, (load_last, load_is, refl))
 
-  number_first : (port k : ℕ) → number_at (first_pass x port) k ≡ 0
+  number_first : (port k : ℕ) → next_number_at (sample_first_pass x port) k ≡ 0
   number_first port zero = refl
   number_first port (suc k) = refl
 
-  fresh_at : (port : ℕ) → port < 2 → IsFreshPort n (stand (first_pass x port) [] [])
+  fresh_at : (port : ℕ) → port < 2 → IsFreshPort n (stand (sample_first_pass x port) [] [])
   fresh_at port there = record {
     there = there;
     windows = refl;
@@ -273,7 +273,7 @@ module _ (images : ImagesAreRead) (x : Sample) (is : IsSample x) where
   read_judged = judged_yes x.read (places.Bank 0) 1
 
   abbrev read_between : PassValue
-  read_between = pass_after (first_pass x 1) (factory_publish x ∷ []) []
+  read_between = pass_after (sample_first_pass x 1) (factory_publish x ∷ []) []
 
   abbrev read_entry : Due
   read_entry = (0, Leaves (entry_of (first_share 1) read_judged Success))
@@ -326,12 +326,12 @@ module _ (images : ImagesAreRead) (x : Sample) (is : IsSample x) where
     none = tt;
   }
 
-  abbrev read_is : IsJudged (read_judging x) x.read (stand (first_pass x 1) [] []) read_last
+  abbrev read_is : IsJudgedInRun (read_judging x) x.read (stand (sample_first_pass x 1) [] []) read_last
   read_is = record {
     between = read_between;
     reached = list_at_load x;
     moment = record { at = list_at_load x; after = (list_at_load x, refl); before = ([], refl); seen = refl };
-    judgement = judged (first_pass x 1) x.read (places.Bank 0) refl refl is.read;
+    judgement = judged (sample_first_pass x 1) x.read (places.Bank 0) refl refl is.read;
     program = refl;
     calls = refl;
     ended = inl (record {
@@ -339,7 +339,7 @@ module _ (images : ImagesAreRead) (x : Sample) (is : IsSample x) where
       place = refl;
       ended = record {
         before = record { bank = bank_before; chain = record { number = 0; log = list_before_entry x } };
-        behind = record { bank = after_command bank_before (first_share 1) read_judged; chain = record { number = 0; log = sample_list x } };
+        following = record { bank = after_command bank_before (first_share 1) read_judged; chain = record { number = 0; log = sample_list x } };
         result = record { status = Success; number = Some 0 };
         bank = is_bank;
         finished = read_finished;
@@ -371,9 +371,9 @@ module _ (images : ImagesAreRead) (x : Sample) (is : IsSample x) where
   served_at (suc zero) there = served_at_1
   served_at (suc (suc port)) there = absurd (omega (arith, there))
 
-  banks_are : (k : ℕ) (bank : BankConfig) → slice_get n.banks k ≡ Some bank → IsBankOf k bank (sample_list x)
+  banks_are : (k : ℕ) (bank : BankConfig) → slice_get n.banks k ≡ Some bank → IsBankOfPorts k bank (sample_list x)
   banks_are zero bank at =
-      subst (λ (b : BankConfig). IsBankOf 0 b (sample_list x)) (same_some sample_bank bank at)
+      subst (λ (b : BankConfig). IsBankOfPorts 0 b (sample_list x)) (same_some sample_bank bank at)
       (record { chain = (refl, (tt, tt), omega arith); few = omega arith })
   banks_are (suc k) bank at = absurd (cc (at))
 
@@ -463,7 +463,7 @@ module _ (images : ImagesAreRead) (x : Sample) (is : IsSample x) where
       (record {
         load = loads.Published 0 x.program;
         decides = (prepared_now, subst (λ (k : ℕ). k + 1 < 2 ^ 32) (sym none_published) (omega arith));
-        told = refl;
+        reported = refl;
       })
 
   entries_staged : entries n (staged_history x) 0 ≡ []
@@ -475,37 +475,37 @@ module _ (images : ImagesAreRead) (x : Sample) (is : IsSample x) where
   abbrev read_command : CommandValue
   read_command = command_of x.read
 
-  read_told : Done Success (read_judging x).reply None ≡ effect_at_place n (loaded_history x) 1 read_command 0 (Some (places.Bank 0))
-  read_told =
+  read_reported : Done Success (read_judging x).reply None ≡ effect_at_place n (loaded_history x) 1 read_command 0 (Some (places.Bank 0))
+  read_reported =
       ap (λ (status : Status). Done status (read_judging x).reply None) (sym (read_status (memory_of bank_before)))
-      ∙ sym (ap (λ (es : List EntryValue). done (answer (replay (first_memory (Some sample_bank)) es) (has_room (Some sample_bank) 1 es) read_command 0)) entries_loaded)
+      ∙ sym (ap (λ (es : List EntryValue). done (answer (replay (first_memory (Some sample_bank)) es) (has_entry_room (Some sample_bank) 1 es) read_command 0)) entries_loaded)
 
-  lawful_staged : IsLawfulButTold n (staged_history x)
+  lawful_staged : IsLawfulExceptAnswers n (staged_history x)
   lawful_staged = (
     (tt, outcome_here n Start (Take 0 x.stage) (Taken 0) 0 refl first_there (took Start 0 x.stage places.Staging refl is.stage refl)),
     outcome_here n taken_stage (EffectEvent 0) (Done stage_status (stage_judging x).reply None) 0 refl first_there
-        (sym (effect_told n taken_stage 0 0 stage_open places.Staging refl (is.stands (header_in x.stage) 0) is.stage.lies)),
+        (sym (effect_reported n taken_stage 0 0 stage_open places.Staging refl (is.stands (seen_header_in x.stage) 0) is.stage.lies)),
   )
 
-  lawful_taken : IsLawfulButTold n (taken_history x)
+  lawful_taken : IsLawfulExceptAnswers n (taken_history x)
   lawful_taken = (
     (lawful_staged, outcome_here n (staged_history x) (Take 0 x.load) (Taken 0) 0 refl first_there (took (staged_history x) 0 x.load places.Control refl is.load refl)),
     outcome_here n taken_load (Take 1 x.read) (Taken 0) 1 refl second_there (took taken_load 1 x.read (places.Bank 0) refl is.read refl),
   )
 
-  lawful_loaded : IsLawfulButTold n (loaded_history x)
+  lawful_loaded : IsLawfulExceptAnswers n (loaded_history x)
   lawful_loaded = (
     lawful_taken,
     outcome_here n (taken_history x) (PublishEvent 0) load_done 0 refl first_there
-        (publish_told n (taken_history x) 0 0 load_open load_done refl (is.stands (header_in x.load) 0) is.load.lies load_controlled),
+        (publish_reported n (taken_history x) 0 0 load_open load_done refl (is.stands (seen_header_in x.load) 0) is.load.lies load_controlled),
   )
 
-  lawful_all : IsLawfulButTold n (sample_history x)
+  lawful_all : IsLawfulExceptAnswers n (sample_history x)
   lawful_all = (
     (
       lawful_loaded,
       outcome_here n (loaded_history x) (EffectEvent 1) (Done Success (read_judging x).reply None) 1 refl second_there
-          (read_told ∙ sym (effect_told n (loaded_history x) 1 0 read_open (places.Bank 0) refl (is.stands (header_in x.read) 1) is.read.lies)),
+          (read_reported ∙ sym (effect_reported n (loaded_history x) 1 0 read_open (places.Bank 0) refl (is.stands (seen_header_in x.read) 1) is.read.lies)),
     ),
     outcome_here n entered_history (Take 1 x.wrong) (Answered x.status (wrong_reply x)) 1 refl second_there
         (sym (ap (packet_outcome n entered_history x.wrong) is.wrong ∙ ap (header_outcome n entered_history x.wrong) is.wrong_line)),
@@ -569,7 +569,7 @@ module _ (images : ImagesAreRead) (x : Sample) (is : IsSample x) where
   entries_all zero bank at =
       entries_done n (loaded_history x) (EffectEvent 1) Success (read_judging x).reply None read_open (Some (places.Bank 0)) refl is.read.lies 0
       ∙ (ap (λ (es : List EntryValue). entered n (Some sample_bank) 1 read_open Success es) entries_loaded
-      ∙ ap (λ (turn : Option Turn). checked_entry 1 0 x.read 0 (verdict_at turn) Success ∷ []) (is.stands (header_in x.read) 1))
+      ∙ ap (λ (turn : Option Turn). checked_entry 1 0 x.read 0 (verdict_at turn) Success ∷ []) (is.stands (seen_header_in x.read) 1))
   entries_all (suc k) bank at = absurd (cc (at))
 
   published_now : published_at n (taken_history x) (PublishEvent 0) load_done ≡ Some (0, x.program.program)
@@ -577,7 +577,7 @@ module _ (images : ImagesAreRead) (x : Sample) (is : IsSample x) where
 
   programs_all : (slot : ℕ) → option_map program_and_generation (judging_program (publishes_of (sample_list x)) slot) ≡ Some (published n (sample_history x) slot)
   programs_all slot =
-      by (0 == slot) ∙ ap (λ (made : Option (ℕ × Program)). Some (published_behind made 0 slot (x.program.program, 0))) (sym published_now)
+      by (0 == slot) ∙ ap (λ (made : Option (ℕ × Program)). Some (published_after_count made 0 slot (x.program.program, 0))) (sym published_now)
     where
       by : (own : Bool) → Some (program_and_generation (cond own (x.program, 1) (x.program, 0))) ≡ Some (if own then (x.program.program, 0 + 1) else (x.program.program, 0))
       by true = refl
@@ -598,7 +598,7 @@ module _ (images : ImagesAreRead) (x : Sample) (is : IsSample x) where
       closed = closed_all;
       entries_are = entries_all;
       programs = programs_all;
-      count = ap (λ (made : Option (ℕ × Program)). counted made 0 + 1) (sym published_now);
+      count = ap (λ (made : Option (ℕ × Program)). counted_publish made 0 + 1) (sym published_now);
       stagings = stagings_all;
     };
     is = refl;
@@ -624,15 +624,15 @@ module _ (images : ImagesAreRead) (x : Sample) (is : IsSample x) where
   shown_alone : (published n (loaded_alone x) (slot_of_packet n x.read)).1 ≡ 1
   shown_alone =
       ap (λ (slot : ℕ). (published n (loaded_alone x) slot).1) read_slot
-      ∙ ap (λ (made : Option (ℕ × Program)). (published_behind made 0 0 (x.program.program, 0)).1) published_alone
+      ∙ ap (λ (made : Option (ℕ × Program)). (published_after_count made 0 0 (x.program.program, 0)).1) published_alone
 
   wrong_ones : WrongOnesAreRefused x
   wrong_ones = record {
     late = λ lawful. done_refused Success (read_judging x).reply (lawful.0.1.here second_there);
     early = λ lawful.
-        let told : Taken 0 ≡ Taken (published n (loaded_alone x) (slot_of_packet n x.read)).1 =
+        let reported : Taken 0 ≡ Taken (published n (loaded_alone x) (slot_of_packet n x.read)).1 =
         lawful.1.here second_there ∙ (ap (packet_outcome n (loaded_alone x) x.read) is.read.command ∙ ap (header_outcome n (loaded_alone x) x.read) is.read.allowed) in
-        let same = taken_same 0 (published n (loaded_alone x) (slot_of_packet n x.read)).1 told in
+        let same = taken_same 0 (published n (loaded_alone x) (slot_of_packet n x.read)).1 reported in
         let one = shown_alone in
         absurd (omega (arith, same, one));
     missing = λ same. two_apart same;

@@ -23,16 +23,16 @@ use Rattle.annals.specs.declared.deed.Link.{Link}
 use Rattle.annals.specs.Chains.{Due, done_for}
 use Rattle.annals.specs.Shown.{AreListed, shown_in, shown_of}
 use Rattle.target.specs.Loads.{AsksForLoad}
-use Rattle.ports.specs.Due.{Deed, IsJudged, Judging, Standing, Worked, stand}
+use Rattle.ports.specs.Due.{Deed, IsJudgedInRun, Judging, Standing, Worked, stand}
 use Rattle.ports.specs.Due.Deed.{Dropped, Answered as Replied, Judged}
 use Rattle.sched.specs.declared.event.Event.TheVariants.{Take}
 use Rattle.sched.specs.declared.event.Outcome.TheVariants.{Done, Taken}
 use Rattle.sched.specs.History.{History, Then, Open, port_of}
-use Rattle.sched.specs.Looking.{Node, staged_behind, staging}
-use Rattle.sched.specs.Turns.{answers_of}
+use Rattle.sched.specs.Looking.{Node, staged_after, staging}
+use Rattle.sched.specs.Turns.{answers_of_calls}
 use Rattle.lawful.specs.Alone.{AreDealtInFull, IsJudgedInFull, IsRefusedForStaged}
-use Rattle.sched.specs.Lawful.{IsLawfulButTold}
-use Rattle.lawful.specs.Happenings.{Happening, HappenBy, HappensBy, ending, happening, told_calls}
+use Rattle.sched.specs.Lawful.{IsLawfulExceptAnswers}
+use Rattle.lawful.specs.Happenings.{Happening, HappenBy, HappensBy, ending, happening, answered_calls}
 use Rattle.lawful.specs.Together.{Account}
 use Rattle.lawful.proofs.Placing.{AreLoadsPlaced, IsLoadPlaced}
 use Rattle.lawful.proofs.Accounts.{IsFrom, PublishesNone, ended, from_front, moment_stands}
@@ -43,14 +43,14 @@ use Rattle.lawful.proofs.Keeping.{Keeps, StaysElsewhere, elsewhere_on, elsewhere
 use Rattle.lawful.proofs.Links.{same_begin, seen_count}
 use Rattle.lawful.proofs.Loading.{IsAround, IsNow, window_thus}
 use Rattle.lawful.proofs.Taking.{taken}
-use Rattle.lawful.proofs.Telling.{asking, outcome_here, tell}
+use Rattle.lawful.proofs.Reporting.{asking, outcome_here, answered_history}
 use Rattle.lawful.proofs.Worlds.{IsCommon, IsIdleBy, IsOf, IsOpen, IsOpenNow, IsPort, IsPortAt, IsStill, IsToEnter, IsToPublish, IsToShow, IsWorld, entry_at, nowhere_moved, port_moved, waits_for}
 use Rattle.lemmas.proofs.Prefixes.{prefix_length, prefix_trans}
 
 -- ---- what goes on
 
 -- what is common stays if nothing was published and no entry left
-common_kept : (n : Node) (q : ℕ) (pre : List Link) (h after : History) → q < n.ports → Keeps n q h after → IsLawfulButTold n after → IsCommon n pre h → IsCommon n pre after
+common_kept : (n : Node) (q : ℕ) (pre : List Link) (h after : History) → q < n.ports → Keeps n q h after → IsLawfulExceptAnswers n after → IsCommon n pre h → IsCommon n pre after
 common_kept n q pre h after there keeps lawful common = record {
   lawful = lawful;
   known = λ some. known_kept n q h after (shown_of pre) keeps (common.known some);
@@ -71,7 +71,7 @@ of_same : (n : Node) (q : ℕ) (s after : Standing) → after ≡ s → IsOf n q
 of_same n q s after same was = subst (IsOf n q) (sym same) was
 
 -- a port after a judged command
-pub of_after : Laws → (n : Node) (q : ℕ) (j : Judging) (p : Cargo) (s after : Standing) → IsJudged j p s after → IsOf n q s → IsOf n q after
+pub of_after : Laws → (n : Node) (q : ℕ) (j : Judging) (p : Cargo) (s after : Standing) → IsJudgedInRun j p s after → IsOf n q s → IsOf n q after
 of_after laws n q j p s after is was =
     let count = one_counted laws.counts (Judged j) p s after is in
     let more = dealt_grown (Judged j) p s after is in
@@ -125,9 +125,9 @@ regroup xs ys z zs = ap (λ (l : List Happening). l ++ zs) (sym (append_assoc xs
 -- what happened so far, with a command that was taken, and with its end
 so_far_open : (q : ℕ) (a : Account) (p : Cargo) (ps : List Cargo) (j : Judging) (ds : List Deed) (before : List Happening)
     → ((more : List Happening) → HappenBy q (p ∷ ps) (Judged j ∷ ds) more → HappenBy q a.packets a.deeds (before ++ more)) → (status : Status) (loaded : Option (List ℕ)) (rest : List Happening) → HappenBy q ps ds rest
-    → HappenBy q a.packets a.deeds ((before ++ (happening (Take q p) (Taken j.judged.generation) ∷ told_calls q j.calls)) ++ (happening (ending j.judged.place q) (Done status j.reply loaded) ∷ rest))
+    → HappenBy q a.packets a.deeds ((before ++ (happening (Take q p) (Taken j.judged.generation) ∷ answered_calls q j.calls)) ++ (happening (ending j.judged.place q) (Done status j.reply loaded) ∷ rest))
 so_far_open q a p ps j ds before so_far status loaded rest later =
-    let first = happening (Take q p) (Taken j.judged.generation) ∷ told_calls q j.calls in
+    let first = happening (Take q p) (Taken j.judged.generation) ∷ answered_calls q j.calls in
     let last = happening (ending j.judged.place q) (Done status j.reply loaded) in
     let thus : HappensBy (Judged j) q p (first ++ last ∷ []) = record { status = status; loaded = loaded; is = refl } in
     subst (λ (hs : List Happening). HappenBy q a.packets a.deeds hs) (regroup before first last rest)
@@ -163,7 +163,7 @@ refused_then j s taken_at after staging_same sizes why = record {
   unprepared =
       subst (λ (x : Maps). IsUnprepared (control_of (command_of j.judged.packet).body) taken_at.pass.staging.bytes x why.refusal) (sym sizes)
       (subst (λ (x : Staged). IsUnprepared (control_of (command_of j.judged.packet).body) x.bytes (sizes_of s.pass.programs) why.refusal) (sym staging_same) why.unprepared);
-  told = why.told;
+  reported = why.reported;
 }
 
 asks_none : (port : ℕ) (loaded : Option Publish) (old new : List Publish) (asked after : List Due) → loaded ≡ None → AsksForLoad port loaded old new asked after → AsksForLoad port None old new asked after
@@ -171,10 +171,10 @@ asks_none port loaded old new asked after is asks = subst (λ (o : Option Publis
 
 -- it ended, and the port goes on with its next packet
 record HasEndedQuietly (n : Node) (whole : List Link) (q : ℕ) (a : Account) (pre : List Link) (now : History) (after : Standing) (ps : List Cargo) (ds : List Deed) : Type 0 where
-  behind : History
-  common : IsCommon n pre behind
-  idle : IsIdleBy n whole q a false pre behind after ps ds
-  elsewhere : StaysElsewhere n q now behind
+  following : History
+  common : IsCommon n pre following
+  idle : IsIdleBy n whole q a false pre following after ps ds
+  elsewhere : StaysElsewhere n q now following
 
 quiet_end : Laws → (n : Node) (whole : List Link) (q : ℕ) (a : Account) (pre : List Link) (now : History) (x : IsOpen n whole q a) → q < n.ports → IsOpenNow n whole q a now x → IsCommon n pre now → IsKnown n now x.is.between.programs
     → length n.firsts < shown_in pre → shown_of pre ≡ x.is.between.programs → length (done_for q pre) ≡ length x.s.asked → length pre ≤ length x.is.reached → PublishesNone x.j x.p x.s x.after x.is
@@ -185,7 +185,7 @@ quiet_end laws n whole q a pre now x there here common known some seen acts few 
     let after = x.after in
     let is = x.is in
     let it = quiet.windowed in
-    let o = asking x.p j.judged.generation x.before (answers_of j.calls) in
+    let o = asking x.p j.judged.generation x.before (answers_of_calls j.calls) in
     let asks = asks_none is.between.port j.loaded it.old it.new s.asked after.asked quiet.none it.asks_for in
     let same = quiet_same j.judged.place is.between.port s.asked after.asked is.between after.pass it.old it.new j.judged it.result j.reply asks it.ended in
     let no_more = ap length same in
@@ -211,18 +211,18 @@ quiet_end laws n whole q a pre now x there here common known some seen acts few 
     } in
     let end = window_thus n q now o j is.between at_end laws.images laws.next j.judged.place refl is.between.port s.asked after.asked first after after.pass it.old it.new it.result j.reply around it.begins it.asks_for it.ended in
     let done = Done end.status j.reply end.loaded in
-    let behind = Then now e done in
+    let following = Then now e done in
     let stays = one_elsewhere n now e done q own in
     let programs : after.pass.programs ≡ shown_of pre = same ∙ sym seen in
-    let known_behind : IsKnown n behind (shown_of pre) = subst (λ (ps : List Publish). IsKnown n behind ps) programs end.known in
+    let known_after : IsKnown n following (shown_of pre) = subst (λ (ps : List Publish). IsKnown n following ps) programs end.known in
     record {
-      behind = behind;
+      following = following;
       common = record {
         lawful = (common.lawful, outcome_here n now e done q own there end.outcome);
-        known = λ _. known_behind;
+        known = λ _. known_after;
         fresh = λ none. absurd (omega (arith, none, some));
         banks = λ k bank at. end.banks k ∙ common.banks k bank at;
-        nowhere = nowhere_moved n q now behind there stays common.nowhere;
+        nowhere = nowhere_moved n q now following there stays common.nowhere;
       };
       idle = record {
         worked = x.worked;
@@ -235,8 +235,8 @@ quiet_end laws n whole q a pre now x there here common known some seen acts few 
         here = record {
           command = opened_here now e done q own;
           staging_is = staging_here n now e done q own
-              ∙ (ap (λ (c : Option Open). staged_behind n c end.status end.loaded (staging n now q)) here.command
-              ∙ (ap (staged_behind n (Some o) end.status end.loaded) (here.staging_is ∙ sym staging_same) ∙ end.staging_is));
+              ∙ (ap (λ (c : Option Open). staged_after n c end.status end.loaded (staging n now q)) here.command
+              ∙ (ap (staged_after n (Some o) end.status end.loaded) (here.staging_is ∙ sym staging_same) ∙ end.staging_is));
           happened = happened_here now e done q own ∙ ap (λ (hs : List Happening). hs ++ happening e done ∷ []) here.happened;
         };
         acts = acts ∙ sym (ap length asks.1);
@@ -277,7 +277,7 @@ taken_here pre at whole stands at_stands low high = same_begin at pre whole at_s
 
 -- a judged command comes next: it is taken here, or later
 judged_next : Laws → (n : Node) (whole : List Link) (q : ℕ) (a : Account) (pre : List Link) (h : History) (s after : Standing) (p : Cargo) (j : Judging) (ps : List Cargo) (ds : List Deed) → q < n.ports → AreListed whole → IsPrefix pre whole → IsPrefix after.front whole
-    → (is : IsJudged j p s after) → IsJudgedInFull s after j → IsLoadPlaced q whole j p s after is → (worked : Worked after ps ds a.last) → AreDealtInFull n after ps ds a.last worked → AreLoadsPlaced q whole after ps ds a.last worked
+    → (is : IsJudgedInRun j p s after) → IsJudgedInFull s after j → IsLoadPlaced q whole j p s after is → (worked : Worked after ps ds a.last) → AreDealtInFull n after ps ds a.last worked → AreLoadsPlaced q whole after ps ds a.last worked
     → length pre ≤ length is.moment.at → (length pre < length is.moment.at → IsPort n whole q a true pre h None) → IsIdleBy n whole q a false pre h s (p ∷ ps) (Judged j ∷ ds) → IsCommon n pre h
     → ((later : History) → IsIdleBy n whole q a false pre later after ps ds → IsCommon n pre later → HasSettled n whole q a pre later) → HasSettled n whole q a pre h
 judged_next laws n whole q a pre h s after p j ps ds there listed stands front is full_here placed_here worked full placed low stays idle common rest =
@@ -296,9 +296,9 @@ judged_next laws n whole q a pre h s after p j ps ds there listed stands front i
         let of_some = idle.mine.some in
         let some : length n.firsts < shown_in pre = omega (arith, count, size, longer, of_some) in
         let known : IsKnown n h is.between.programs = subst (λ (xs : List Publish). IsKnown n h xs) seen (common.known some) in
-        let now = tell q j.calls (Then h (Take q p) (Taken j.judged.generation)) in
+        let now = answered_history q j.calls (Then h (Take q p) (Taken j.judged.generation)) in
         let verdict = taken laws.front n q p j h s after there common.lawful idle.here.command idle.mine.windows idle.mine.port_is is known in
-        let first = happening (Take q p) (Taken j.judged.generation) ∷ told_calls q j.calls in
+        let first = happening (Take q p) (Taken j.judged.generation) ∷ answered_calls q j.calls in
         let x : IsOpen n whole q a = record {
           s = s;
           after = after;
@@ -335,7 +335,7 @@ judged_next laws n whole q a pre h s after p j ps ds there listed stands front i
               elim window [
                 | inl quiet ↦
                     let it = quiet_end laws n whole q a pre now x there here common_now (known_kept n q h now is.between.programs verdict.keeps known) some seen idle.acts reached quiet in
-                    settled_on n whole q a pre now it.behind it.elsewhere (rest it.behind it.idle it.common)
+                    settled_on n whole q a pre now it.following it.elsewhere (rest it.following it.idle it.common)
                 | inr one ↦
                     let more = prefix_length is.reached one.placed.before one.placed.seen in
                     settled_here n whole q a pre now common_now

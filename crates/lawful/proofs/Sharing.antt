@@ -26,13 +26,13 @@ use Rattle.ports.specs.Due.{Judging, Standing}
 use Rattle.sched.specs.declared.event.Event.TheVariants.{Effect}
 use Rattle.sched.specs.declared.event.Outcome.TheVariants.{Done}
 use Rattle.sched.specs.History.{History, Then, Open, opened}
-use Rattle.sched.specs.Lawful.{IsOutcomeAtButTold, bank_answer, effect_outcome}
-use Rattle.sched.specs.Looking.{Node, entered, entries, entry_left, first_memory, has_room, memory, place_in, turn_of, verdict_at}
-use Rattle.lawful.specs.Together.{AreSomeEntries, IsBankOf, IsChainOf, IsSomeEntry}
+use Rattle.sched.specs.Lawful.{IsOutcomeAtExceptAnswer, bank_answer, effect_outcome}
+use Rattle.sched.specs.Looking.{Node, entered, entries, entry_left, first_memory, has_entry_room, memory, place_in, turn_of, verdict_at}
+use Rattle.lawful.specs.Together.{AreSomeEntries, IsBankOfPorts, IsChainOf, IsSomeEntry}
 use Rattle.lawful.proofs.Entering.{IsDoneAt}
 use Rattle.lawful.proofs.Keeping.{apart, itself}
 use Rattle.lawful.proofs.Links.{chain_begin, chain_entry, front_of}
-use Rattle.lawful.proofs.Loading.{effect_told, entries_done}
+use Rattle.lawful.proofs.Loading.{effect_reported, entries_done}
 use Rattle.lawful.proofs.Owning.{entry_last, not_begun, range_length}
 
 -- ---- entries
@@ -76,7 +76,7 @@ pub record IsBankSoFar (k : ℕ) (bank : BankConfig) (before : List Link) : Type
   pub few : length (entries_of k before) ≤ bank.room
   pub memory : (chain_of k before ≡ [] → ⊥) → memory_after k before ≡ replay (first_memory (Some bank)) (entries_of k before)
 
-pub bank_so_far : (k : ℕ) (bank : BankConfig) (before whole : List Link) → IsBankOf k bank whole → IsPrefix before whole → IsBankSoFar k bank before
+pub bank_so_far : (k : ℕ) (bank : BankConfig) (before whole : List Link) → IsBankOfPorts k bank whole → IsPrefix before whole → IsBankSoFar k bank before
 bank_so_far k bank before whole is begins = let q = chain_begin k before whole begins in by q.0 q.1 (chain_of k before) refl
   where
     by : (rest : List Link) → chain_of k before ++ rest ≡ chain_of k whole → (ls : List Link) → chain_of k before ≡ ls → IsBankSoFar k bank before
@@ -102,7 +102,7 @@ bank_so_far k bank before whole is begins = let q = chain_begin k before whole b
         }
 
 -- a bank that has an entry had begun before that
-begun : (k place next : ℕ) (bank : BankConfig) (before whole : List Link) (e : EntryValue) → IsBankOf k bank whole → IsPrefix (before ++ link k place (Does (Leaves e)) next ∷ []) whole → chain_of k before ≡ [] → ⊥
+begun : (k place next : ℕ) (bank : BankConfig) (before whole : List Link) (e : EntryValue) → IsBankOfPorts k bank whole → IsPrefix (before ++ link k place (Does (Leaves e)) next ∷ []) whole → chain_of k before ≡ [] → ⊥
 begun k place next bank before whole e is begins none =
     let l = link k place (Does (Leaves e)) next in
     let q = chain_begin k (before ++ l ∷ []) whole begins in
@@ -128,11 +128,11 @@ below x y z a b = omega (arith, a, b)
 -- The end of a command at a bank is lawful. The bank then has the entries that the list has of it.
 pub record EndsWithEntry (n : Node) (port k : ℕ) (now : History) (o : Open) (reply : List ℕ) (after : List Link) : Type 0 where
   pub status : Status
-  pub outcome : IsOutcomeAtButTold n now (Effect port) (Done status reply None)
+  pub outcome : IsOutcomeAtExceptAnswer n now (Effect port) (Done status reply None)
   pub own : entries n (Then now (Effect port) (Done status reply None)) k ≡ entries_of k after
   pub others : (m : ℕ) → (m ≡ k → ⊥) → entries n (Then now (Effect port) (Done status reply None)) m ≡ entries n now m
 
-pub entry_thus : (n : Node) (port k : ℕ) (bank : BankConfig) (whole : List Link) (now : History) (o : Open) (j : Judging) (h after : Standing) → slice_get n.banks k ≡ Some bank → IsBankOf k bank whole
+pub entry_thus : (n : Node) (port k : ℕ) (bank : BankConfig) (whole : List Link) (now : History) (o : Open) (j : Judging) (h after : Standing) → slice_get n.banks k ≡ Some bank → IsBankOfPorts k bank whole
     → opened now port ≡ Some o → turn_of n port o ≡ Some (turns.Verdict j.judged.verdict) → place_in n o.packet ≡ Some j.judged.place → j.judged.packet ≡ o.packet
     → o.generation ≡ j.judged.generation → j.judged.port ≡ port → j.judged.place ≡ places.Bank k → (done : IsDoneAt k j h after) → IsPrefix after.front whole → entries n now k ≡ entries_of k done.before
     → EndsWithEntry n port k now o j.reply after.front
@@ -160,19 +160,19 @@ entry_thus n port k bank whole now o j h after there bank_is is_open stands at_p
     let below_all : length (numbers_of port es) < 2 ^ 64 - 1 = below (length (numbers_of port es)) bank.room (2 ^ 64) (omega (arith, own_few, few)) bank_is.few in
     let has_place : nat_lt (length es) bank.room ≡ true = grind (arith, nat_tests, below_room) in
     let has_number : nat_lt (length (numbers_of port es)) (2 ^ 64 - 1) ≡ true = grind (arith, nat_tests, below_all) in
-    let room : has_room (slice_get n.banks k) port es ≡ true =
-    ap (λ (b : Option BankConfig). has_room b port es) there ∙ and_from (nat_lt (length es) bank.room) (nat_lt (length (numbers_of port es)) (2 ^ 64 - 1)) has_place has_number in
+    let room : has_entry_room (slice_get n.banks k) port es ≡ true =
+    ap (λ (b : Option BankConfig). has_entry_room b port es) there ∙ and_from (nat_lt (length es) bank.room) (nat_lt (length (numbers_of port es)) (2 ^ 64 - 1)) has_place has_number in
     let memory_is : memory n now k ≡ memory_after k before =
     ap (λ (b : Option BankConfig). replay (first_memory b) es) there ∙ (ap (replay (first_memory (Some bank))) same ∙ sym (so_before.memory (begun k (length (chain_of k before)) done.next bank before whole e bank_is stands_at))) in
     let answer_is : bank_answer n now k port (command_of o.packet) v ≡ answer_after k before j.judged =
-    ap (λ (m : Memory). answer m (has_room (slice_get n.banks k) port es) (command_of o.packet) v) memory_is
+    ap (λ (m : Memory). answer m (has_entry_room (slice_get n.banks k) port es) (command_of o.packet) v) memory_is
     ∙ (ap (λ (r : Bool). answer (memory_after k before) r (command_of o.packet) v) room ∙ ap (λ (p : Cargo). answer (memory_after k before) true (command_of p) v) (sym packet)) in
     let a = bank_answer n now k port (command_of o.packet) v in
     let status_is : done.status ≡ a.status = done.status_is ∙ sym (ap (λ (x : Answer). x.status) answer_is) in
     let reply_is : j.reply ≡ a.reply = done.reply_is ∙ sym (ap (λ (x : Answer). x.reply) answer_is) in
     let lies : place_in n o.packet ≡ Some (places.Bank k) = at_place ∙ ap (λ (x : Place). Some x) place in
     let lawful : Done done.status j.reply None ≡ effect_outcome n now port (opened now port) =
-    ap (λ (x : Status). Done x j.reply None) status_is ∙ (ap (λ (bytes : List ℕ). Done a.status bytes None) reply_is ∙ sym (effect_told n now port v o (places.Bank k) is_open stands lies)) in
+    ap (λ (x : Status). Done x j.reply None) status_is ∙ (ap (λ (bytes : List ℕ). Done a.status bytes None) reply_is ∙ sym (effect_reported n now port v o (places.Bank k) is_open stands lies)) in
     let entry_is : entry_left n port (length (numbers_of port es)) o done.status ≡ e =
     ap (λ (x : ℕ). entry_left n port x o done.status) number_is
     ∙ (ap (λ (x : Option Turn). checked_entry port done.share.number o.packet o.generation (verdict_at x) done.status) stands

@@ -28,9 +28,9 @@ use Rattle.sched.specs.declared.event.Event.{Event}
 use Rattle.sched.specs.declared.event.Event.TheVariants.{Effect, Publish as Publishing}
 use Rattle.sched.specs.declared.event.Outcome.TheVariants.{Done}
 use Rattle.sched.specs.History.{History, Then, Open}
-use Rattle.sched.specs.Looking.{Node, entries, published, staged_behind, staging}
+use Rattle.sched.specs.Looking.{Node, entries, published, staged_after, staging}
 use Rattle.lawful.specs.Happenings.{Happening, HappenBy, ending, happening}
-use Rattle.lawful.specs.Together.{Account, IsBankOf}
+use Rattle.lawful.specs.Together.{Account, IsBankOfPorts}
 use Rattle.lawful.proofs.Accounts.{HasActed, IsFrom, LeavesEntry, PublishesOne, acts_few, from_front, from_less, from_seen, load_acted, one_loaded}
 use Rattle.lawful.proofs.Alone.{Laws, there_at}
 use Rattle.lawful.proofs.Entering.{bank_staging}
@@ -41,7 +41,7 @@ use Rattle.lawful.proofs.Links.{IsNoneOf, at_place, done_few, done_one, done_sam
 use Rattle.lawful.proofs.Loading.{IsNow, loaded_thus, quiet_known}
 use Rattle.lawful.proofs.Settling.{of_after}
 use Rattle.lawful.proofs.Sharing.{entry_thus}
-use Rattle.lawful.proofs.Telling.{outcome_here}
+use Rattle.lawful.proofs.Reporting.{outcome_here}
 use Rattle.lawful.proofs.Worlds.{IsCommon, IsIdleAt, IsOpen, IsPort, IsPortAt, IsToEnter, IsToPublish, IsToShow, command_in, enter_acted, entry_at, front_open, nowhere_moved, waits_for}
 use Rattle.lemmas.proofs.Prefixes.{prefix_length, prefix_shorter, prefix_trans}
 
@@ -193,7 +193,7 @@ module _ (laws : Laws) (n : Node) (whole : List Link) (q : ℕ) (a : Account) (p
   -- ---- a link of the port
 
   -- a bank has its entry
-  pub entry_step : (h : History) (x : IsToEnter n whole q a pre h) → q < n.ports → ((k : ℕ) (bank : BankConfig) → slice_get n.banks k ≡ Some bank → IsBankOf k bank whole) → IsCommon n pre h → length (entry_at n whole q a x.open_at x.entry).before ≡ length pre → HasStepped n whole q a pre l h None
+  pub entry_step : (h : History) (x : IsToEnter n whole q a pre h) → q < n.ports → ((k : ℕ) (bank : BankConfig) → slice_get n.banks k ≡ Some bank → IsBankOfPorts k bank whole) → IsCommon n pre h → length (entry_at n whole q a x.open_at x.entry).before ≡ length pre → HasStepped n whole q a pre l h None
   entry_step h x there banks common same =
       let o = x.open_at in
       let j = o.j in
@@ -262,8 +262,8 @@ module _ (laws : Laws) (n : Node) (whole : List Link) (q : ℕ) (a : Account) (p
               here = record {
                 command = opened_here h e outcome q refl;
                 staging_is = staging_here n h e outcome q refl
-                    ∙ (ap (λ (y : Option Open). staged_behind n y end.status None (staging n h q)) x.here.command
-                    ∙ (ap (staged_behind n (Some c) end.status None) (x.here.staging_is ∙ sym staging_same) ∙ bank_staging n c j k end.status middle after o.lies entry.banked.place entry.banked));
+                    ∙ (ap (λ (y : Option Open). staged_after n y end.status None (staging n h q)) x.here.command
+                    ∙ (ap (staged_after n (Some c) end.status None) (x.here.staging_is ∙ sym staging_same) ∙ bank_staging n c j k end.status middle after o.lies entry.banked.place entry.banked));
                 happened = happened_here h e outcome q refl ∙ ap (λ (hs : List Happening). hs ++ happening e outcome ∷ []) x.here.happened;
               };
               acts = omega (arith, one, asked, acts);
@@ -350,7 +350,7 @@ module _ (laws : Laws) (n : Node) (whole : List Link) (q : ℕ) (a : Account) (p
           load = was.published.load;
           extends = was.published.extends;
           place = was.published.place;
-          told = was.published.told;
+          reported = was.published.reported;
           keeps = subst (λ (ps : List Publish). IsPrefix old ps) (sym load.programs) (one.publish ∷ [], refl);
           learnt = was.published.learnt;
         };
@@ -395,8 +395,8 @@ module _ (laws : Laws) (n : Node) (whole : List Link) (q : ℕ) (a : Account) (p
               here = record {
                 command = opened_here h e outcome q refl;
                 staging_is = staging_here n h e outcome q refl
-                    ∙ (ap (λ (y : Option Open). staged_behind n y end.status end.loaded (staging n h q)) x.here.command
-                    ∙ (ap (staged_behind n (Some c) end.status end.loaded) (x.here.staging_is ∙ sym staging_same) ∙ end.staging_is));
+                    ∙ (ap (λ (y : Option Open). staged_after n y end.status end.loaded (staging n h q)) x.here.command
+                    ∙ (ap (staged_after n (Some c) end.status end.loaded) (x.here.staging_is ∙ sym staging_same) ∙ end.staging_is));
                 happened = happened_here h e outcome q refl ∙ ap (λ (hs : List Happening). hs ++ happening e outcome ∷ []) x.here.happened;
               };
               acts = omega (arith, same_acts, asked, acts);

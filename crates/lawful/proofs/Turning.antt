@@ -10,7 +10,7 @@ use Rattle.machine.specs.Memory.{Header}
 use Rattle.machine.specs.Runs.{Ends, GoesOn, call}
 use Rattle.machine.specs.State.{State, entry_state}
 use Rattle.machine.specs.Step.{Outcome, Next, Ask, Verdict, Trap, step}
-use Rattle.sched.specs.Turns.{answers_of, onward, turn_after, turn_within}
+use Rattle.sched.specs.Turns.{answers_of_calls, onward, turn_after, turn_within}
 
 -- where a run is whose calls to come are those: at the question of the first, or at its verdict
 abbrev pub turn_before : (verdict : ℕ) → List Call → Turn
@@ -25,11 +25,11 @@ AreSmall (c ∷ cs) = (c.answer < 2 ^ 64) × AreSmall cs
 -- what is known from any state on, after that many steps fewer
 abbrev Stands : Program → Header → (n steps verdict : ℕ) → Type 0
 Stands program header n steps verdict =
-    (t : State) (done rest : List Call) → Ends program header n t (done ++ rest) verdict → turn_within program header steps t (answers_of done) ≡ Some (turn_before verdict rest)
+    (t : State) (done rest : List Call) → Ends program header n t (done ++ rest) verdict → turn_within program header steps t (answers_of_calls done) ≡ Some (turn_before verdict rest)
 
 stands_by : (program : Program) (header : Header) (n steps verdict : ℕ) → Stands program header n steps verdict → (o : Outcome) (done rest : List Call)
     → GoesOn (λ t more. Ends program header n t more verdict) (n ≡ 0) (done ++ rest) verdict o
-    → onward (turn_within program header steps) (answers_of done) o ≡ Some (turn_before verdict rest)
+    → onward (turn_within program header steps) (answers_of_calls done) o ≡ Some (turn_before verdict rest)
 stands_by program header n steps verdict further (Next t) done rest goes = further t done rest goes
 stands_by program header n steps verdict further (Ask question next) [] rest goes = ap (λ (cs : List Call). Some (turn_before verdict cs)) (sym goes.3)
 stands_by program header n steps verdict further (Ask question next) (d ∷ ds) rest goes =
@@ -64,7 +64,7 @@ small program header verdict (suc n) t calls ends = small_by program header n ve
 -- along its run a program is where the calls to come say
 abbrev pub StandsAlong : Program → Header → (port : ℕ) → List Call → (verdict : ℕ) → Type 0
 StandsAlong program header port calls verdict =
-    (done rest : List Call) → calls ≡ done ++ rest → turn_after program header port (answers_of done) ≡ Some (turn_before verdict rest)
+    (done rest : List Call) → calls ≡ done ++ rest → turn_after program header port (answers_of_calls done) ≡ Some (turn_before verdict rest)
 
 pub along_run : RunsFromTheFront → (program : Program) (header : Header) (port : ℕ) (calls : List Call) (verdict : ℕ) → RunsWithin program header port calls verdict
     → StandsAlong program header port calls verdict

@@ -13,14 +13,14 @@ use Rattle.annals.specs.Banks.{entries_of}
 use Rattle.annals.specs.Chains.{done_for, instrument}
 use Rattle.annals.specs.Publishes.{publishes_of}
 use Rattle.annals.specs.Shown.{shown_in, shown_of}
-use Rattle.ports.specs.Due.{Deed, IsJudged, Judging, Standing, Worked, stand}
+use Rattle.ports.specs.Due.{Deed, IsJudgedInRun, Judging, Standing, Worked, stand}
 use Rattle.ports.specs.Due.Deed.{Dropped, Answered, Judged}
 use Rattle.sched.specs.declared.event.Outcome.TheVariants.{Done}
 use Rattle.sched.specs.History.{History, Start, Open, opened}
 use Rattle.sched.specs.Looking.{Node, entries, place_in, published, publishes, staging, turn_of, windows_in}
-use Rattle.sched.specs.Turns.{answers_of}
+use Rattle.sched.specs.Turns.{answers_of_calls}
 use Rattle.lawful.specs.Alone.{AreDealtInFull, IsJudgedInFull}
-use Rattle.sched.specs.Lawful.{IsLawfulButTold}
+use Rattle.sched.specs.Lawful.{IsLawfulExceptAnswers}
 use Rattle.lawful.specs.Happenings.{Happening, HappenBy, ending, happened_at, happening}
 use Rattle.lawful.specs.Together.{Account}
 use Rattle.lawful.proofs.Placing.{AreLoadsPlaced}
@@ -29,7 +29,7 @@ use Rattle.lawful.proofs.Alone.{worked_front}
 use Rattle.lawful.proofs.Entering.{IsDoneAt, asks_one, done_at}
 use Rattle.lawful.proofs.Idling.{IsKnown}
 use Rattle.lawful.proofs.Keeping.{StaysElsewhere}
-use Rattle.lawful.proofs.Telling.{asking}
+use Rattle.lawful.proofs.Reporting.{asking}
 use Rattle.lemmas.proofs.Prefixes.{prefix_trans}
 
 -- ---- what looking back finds
@@ -46,7 +46,7 @@ pub record IsNowhere (h : History) (q : ℕ) : Type 0 where
 
 -- what looking back finds of the programs and of the banks is what the list has up to there
 pub record IsCommon (n : Node) (pre : List Link) (h : History) : Type 0 where
-  pub lawful : IsLawfulButTold n h
+  pub lawful : IsLawfulExceptAnswers n h
   pub known : length n.firsts < shown_in pre → IsKnown n h (shown_of pre)
   pub fresh : shown_in pre ≤ length n.firsts → IsUnpublished n h
   pub banks : (k : ℕ) (bank : BankConfig) → slice_get n.banks k ≡ Some bank → entries n h k ≡ entries_of k pre
@@ -117,7 +117,7 @@ pub record IsOpen (n : Node) (whole : List Link) (q : ℕ) (a : Account) : Type 
   pub after : Standing
   pub p : Cargo
   pub j : Judging
-  pub is : IsJudged j p s after
+  pub is : IsJudgedInRun j p s after
   pub full_here : IsJudgedInFull s after j
   pub ps : List Cargo
   pub ds : List Deed
@@ -126,7 +126,7 @@ pub record IsOpen (n : Node) (whole : List Link) (q : ℕ) (a : Account) : Type 
   pub placed : AreLoadsPlaced q whole after ps ds a.last worked
   pub mine : IsOf n q s
   pub before : History
-  pub stands : turn_of n q (asking p j.judged.generation before (answers_of j.calls)) ≡ Some (turns.Verdict j.judged.verdict)
+  pub stands : turn_of n q (asking p j.judged.generation before (answers_of_calls j.calls)) ≡ Some (turns.Verdict j.judged.verdict)
   pub lies : place_in n p ≡ Some j.judged.place
   pub happened : List Happening
   pub so_far : (status : Status) (loaded : Option (List ℕ)) (rest : List Happening) → HappenBy q ps ds rest
@@ -134,7 +134,7 @@ pub record IsOpen (n : Node) (whole : List Link) (q : ℕ) (a : Account) : Type 
 
 -- the command that is open
 abbrev pub command_in : (n : Node) (whole : List Link) (q : ℕ) (a : Account) → IsOpen n whole q a → Open
-command_in n whole q a x = asking x.p x.j.judged.generation x.before (answers_of x.j.calls)
+command_in n whole q a x = asking x.p x.j.judged.generation x.before (answers_of_calls x.j.calls)
 
 -- what looking back finds of it
 abbrev pub IsOpenNow : (n : Node) (whole : List Link) (q : ℕ) (a : Account) (h : History) → IsOpen n whole q a → Type 0

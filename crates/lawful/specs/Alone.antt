@@ -25,11 +25,11 @@ use Rattle.node_parts.specs.Nodes.{first_staging}
 use Rattle.target.specs.Lines.{CountsAllOf}
 use Rattle.ports.specs.Due.{Deed, Judging, Standing, Worked, judgings}
 use Rattle.ports.specs.Due.Deed.{Dropped, Answered, Judged}
-use Rattle.ports.specs.Laws.{loaded_by, number_at}
+use Rattle.ports.specs.Laws.{publishes_of_commands, next_number_at}
 use Rattle.sched.specs.Agreement.{program_and_generation, slot_and_program}
 use Rattle.sched.specs.History.{History, opened}
 use Rattle.sched.specs.Looking.{Node, entries, published, staging, windows_in}
-use Rattle.sched.specs.Lawful.{IsLawfulButTold}
+use Rattle.sched.specs.Lawful.{IsLawfulExceptAnswers}
 use Rattle.lawful.specs.Happenings.{HappenBy, happened_at}
 
 -- ---- premises
@@ -47,29 +47,29 @@ pub record IsFreshPort (n : Node) (s : Standing) : Type 0 where
   pub sizes : factory.program.sizes ≡ n.sizes
   pub staging_is : s.pass.staging ≡ first_staging
   pub shares : length s.pass.shares ≡ length n.banks
-  pub numbers : (k : ℕ) → number_at s.pass k ≡ 0
+  pub numbers : (k : ℕ) → next_number_at s.pass k ≡ 0
 
 -- a deed at a bank is an entry of that port
-abbrev pub IsEntryOf : (port : ℕ) → LinkDeed → Type 0
-IsEntryOf port (Opens opening) = ⊥
-IsEntryOf port (Does (Leaves entry)) = entry.port ≡ port
-IsEntryOf port (Does (Sets setting)) = ⊥
-IsEntryOf port (Does (Rotates room)) = ⊥
-IsEntryOf port (Does (Publishes publish)) = ⊥
-IsEntryOf port (Asks due) = ⊥
-IsEntryOf port Shows = ⊥
+abbrev pub IsDeedOf : (port : ℕ) → LinkDeed → Type 0
+IsDeedOf port (Opens opening) = ⊥
+IsDeedOf port (Does (Leaves entry)) = entry.port ≡ port
+IsDeedOf port (Does (Sets setting)) = ⊥
+IsDeedOf port (Does (Rotates room)) = ⊥
+IsDeedOf port (Does (Publishes publish)) = ⊥
+IsDeedOf port (Asks due) = ⊥
+IsDeedOf port Shows = ⊥
 
 -- each deed is an entry of that port
-abbrev pub AreEntriesOf : (port : ℕ) → List Link → Type 0
-AreEntriesOf port [] = Unit {0}
-AreEntriesOf port (l ∷ ls) = IsEntryOf port l.deed × AreEntriesOf port ls
+abbrev pub AreDeedsOf : (port : ℕ) → List Link → Type 0
+AreDeedsOf port [] = Unit {0}
+AreDeedsOf port (l ∷ ls) = IsDeedOf port l.deed × AreDeedsOf port ls
 
 -- What the list has of a bank, if anything. First the bank began, as the node's configuration says. Then come entries
 -- of only that port, for which its journal has room.
 abbrev pub IsOwnChain : (port : ℕ) → BankConfig → List Link → Type 0
 IsOwnChain port bank [] = Unit {0}
 IsOwnChain port bank (l ∷ ls) =
-    (l.deed ≡ Opens (bank.base, bank.size, bank.room)) × AreEntriesOf port ls × (length ls ≤ bank.room)
+    (l.deed ≡ Opens (bank.base, bank.size, bank.room)) × AreDeedsOf port ls × (length ls ≤ bank.room)
 
 -- what the list has of the bank of that number is the port's, and the numbers of its entries are below 2^64
 pub record IsOwnBank (port k : ℕ) (bank : BankConfig) (whole : List Link) : Type 0 where
@@ -80,7 +80,7 @@ pub record IsOwnBank (port k : ℕ) (bank : BankConfig) (whole : List Link) : Ty
 pub record IsRefusedForStaged (h after : Standing) (j : Judging) : Type 0 where
   pub refusal : LoadRefusal
   pub unprepared : IsUnprepared (control_of (command_of j.judged.packet).body) h.pass.staging.bytes (sizes_of h.pass.programs) refusal
-  pub told : after.pass.staging.load_result ≡ refused_result refusal
+  pub reported : after.pass.staging.load_result ≡ refused_result refusal
 
 -- A judged command lacked nothing: at a bank it left its entry, and a load published its program or was refused for
 -- what was staged.
@@ -111,7 +111,7 @@ pub record IsServedAlone (n : Node) (first : Standing) (ps : List Cargo) (ds : L
   pub banks : (k : ℕ) (bank : BankConfig) → slice_get n.banks k ≡ Some bank → IsOwnBank first.pass.port k bank whole
   pub begins : IsPrefix last.front whole
   pub counted : CountsAllOf last.pass whole
-  pub loads : length last.pass.programs ≤ length first.pass.programs + length (loaded_by (judgings ds))
+  pub loads : length last.pass.programs ≤ length first.pass.programs + length (publishes_of_commands (judgings ds))
   pub in_full : AreDealtInFull n first ps ds last worked
 
 -- ---- the law
@@ -121,7 +121,7 @@ pub record IsServedAlone (n : Node) (first : Standing) (ps : List Cargo) (ds : L
 -- port knows in the end, and its staging is the port's.
 pub record HasLawfulHistory (n : Node) (port : ℕ) (ps : List Cargo) (ds : List Deed) (last : Standing) (whole : List Link) : Type 0 where
   pub history : History
-  pub lawful : IsLawfulButTold n history
+  pub lawful : IsLawfulExceptAnswers n history
   pub happened : HappenBy port ps ds (happened_at port history)
   pub elsewhere : (other : ℕ) → (other ≡ port → ⊥) → happened_at other history ≡ []
   pub closed : opened history port ≡ None

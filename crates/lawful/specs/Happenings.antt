@@ -31,12 +31,12 @@ happened_at port (Then h event outcome) =
     if port_of event == port then happened_at port h ++ happening event outcome ∷ [] else happened_at port h
 
 -- the helper of a call of the port's program answers
-abbrev pub told_call : (port : ℕ) → Call → Happening
-told_call port c = happening (answering c.question.helper port) (Told c.answer)
+abbrev pub answered_call : (port : ℕ) → Call → Happening
+answered_call port c = happening (answering c.question.helper port) (Told c.answer)
 
 -- the helpers of some calls of the port's program answer, in order
-abbrev pub told_calls : (port : ℕ) → List Call → List Happening
-told_calls port calls = map (told_call port) calls
+abbrev pub answered_calls : (port : ℕ) → List Call → List Happening
+answered_calls port calls = map (answered_call port) calls
 
 -- the event by which a command of that place ends: a Publish at a control write, and else an Effect
 abbrev pub ending : Place → (port : ℕ) → Event
@@ -51,7 +51,7 @@ pub record IsJudgedThus (port : ℕ) (p : Cargo) (j : Judging) (happened : List 
   pub status : Status
   pub loaded : Option (List ℕ)
   pub is : happened
-      ≡ (happening (Take port p) (Taken j.judged.generation) ∷ told_calls port j.calls)
+      ≡ (happening (Take port p) (Taken j.judged.generation) ∷ answered_calls port j.calls)
       ++ happening (ending j.judged.place port) (Done status j.reply loaded) ∷ []
 
 -- what happens by what became of a packet of the port

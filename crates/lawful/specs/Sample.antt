@@ -42,7 +42,7 @@ use Rattle.ports.specs.Due.Deed.{Answered as Replied, Judged}
 use Rattle.sched.specs.declared.event.Event.TheVariants.{Take, Effect, Publish as PublishEvent}
 use Rattle.sched.specs.declared.event.Outcome.TheVariants.{Answered, Taken, Done}
 use Rattle.sched.specs.History.{History, Start, Then}
-use Rattle.sched.specs.Lawful.{IsLawfulButTold}
+use Rattle.sched.specs.Lawful.{IsLawfulExceptAnswers}
 use Rattle.sched.specs.Looking.{Node, publishes, windows_in}
 use Rattle.sched.specs.Turns.{turn_after}
 use Rattle.lawful.specs.Together.{Account, AreServedTogether, HaveLawfulHistory}
@@ -141,8 +141,8 @@ sample_list x = opening_link ∷ factory_link x ∷ showing ∷ load_link x ∷ 
 -- ---- what the ports did
 
 -- what a port has at first
-abbrev pub first_pass : Sample → (port : ℕ) → PassValue
-first_pass x port = record {
+abbrev pub sample_first_pass : Sample → (port : ℕ) → PassValue
+sample_first_pass x port = record {
   port = port;
   windows = windows_in (sample_node x);
   programs = factory_publish x ∷ [];
@@ -153,14 +153,14 @@ first_pass x port = record {
 
 -- port 0 after the program was staged, and after it was loaded
 abbrev pub pass_staged : Sample → PassValue
-pass_staged x = with_staging (first_pass x 0) (sample_staging x)
+pass_staged x = with_staging (sample_first_pass x 0) (sample_staging x)
 
 abbrev pub pass_loaded : Sample → PassValue
 pass_loaded x = after_load (pass_staged x) (factory_publish x ∷ load_publish x ∷ []) (published_result 1)
 
 -- port 1 after it left its entry
 abbrev pub pass_entered : Sample → PassValue
-pass_entered x = with_share (first_pass x 1) (Bank 0) (record { port = 1; number = 1 })
+pass_entered x = with_share (sample_first_pass x 1) (Bank 0) (record { port = 1; number = 1 })
 
 -- the judgings of the three commands
 abbrev pub stage_judging : Sample → Judging
@@ -200,13 +200,13 @@ wrong_reply x = reply_of (command_of x.wrong) x.status []
 -- what each port had, served and has
 abbrev pub sample_accounts : Sample → ℕ → Account
 sample_accounts x zero = record {
-  first = stand (first_pass x 0) [] [];
+  first = stand (sample_first_pass x 0) [] [];
   last = stand (pass_loaded x) ((publishes_chain, Publishes (0, load_publish x)) ∷ []) (list_at_load x);
   packets = x.stage ∷ x.load ∷ [];
   deeds = Judged (stage_judging x) ∷ Judged (load_judging x) ∷ [];
 }
 sample_accounts x (suc port) = record {
-  first = stand (first_pass x 1) [] [];
+  first = stand (sample_first_pass x 1) [] [];
   last = stand (pass_entered x) ((0, Leaves (entry_of (first_share 1) (judged_yes x.read (Bank 0) 1) Success)) ∷ [])
       (sample_list x);
   packets = x.read ∷ x.wrong ∷ [];
@@ -261,8 +261,8 @@ missing_load x =
 
 -- the first two are not lawful, and the third does not have the programs of the list
 pub record WrongOnesAreRefused (x : Sample) : Type 0 where
-  pub late : IsLawfulButTold (sample_node x) (late_take x) → ⊥
-  pub early : IsLawfulButTold (sample_node x) (early_load x) → ⊥
+  pub late : IsLawfulExceptAnswers (sample_node x) (late_take x) → ⊥
+  pub early : IsLawfulExceptAnswers (sample_node x) (early_load x) → ⊥
   pub missing : length (publishes_of (sample_list x)) ≡ publishes (sample_node x) (missing_load x) + 1 → ⊥
 
 -- ---- the law

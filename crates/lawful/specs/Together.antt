@@ -21,7 +21,7 @@ use Rattle.sched.specs.Agreement.{program_and_generation, slot_and_program}
 use Rattle.sched.specs.History.{History, opened}
 use Rattle.sched.specs.Looking.{Node, entries, published, publishes, staging}
 use Rattle.lawful.specs.Alone.{AreDealtInFull, IsFreshPort}
-use Rattle.sched.specs.Lawful.{IsLawfulButTold}
+use Rattle.sched.specs.Lawful.{IsLawfulExceptAnswers}
 use Rattle.lawful.specs.Happenings.{HappenBy, happened_at}
 
 -- ---- premises
@@ -66,7 +66,7 @@ IsChainOf bank [] = Unit {0}
 IsChainOf bank (l ∷ ls) = (l.deed ≡ Opens (bank.base, bank.size, bank.room)) × AreSomeEntries ls × (length ls ≤ bank.room)
 
 -- the list has of the bank of that number what ports left, and the numbers of its entries are below 2^64
-pub record IsBankOf (k : ℕ) (bank : BankConfig) (whole : List Link) : Type 0 where
+pub record IsBankOfPorts (k : ℕ) (bank : BankConfig) (whole : List Link) : Type 0 where
   pub chain : IsChainOf bank (chain_of k whole)
   pub few : bank.room < 2 ^ 64
 
@@ -80,7 +80,7 @@ published_first publish = (publishes_chain, Publishes (instrument, publish))
 pub record AreServedTogether (n : Node) (accounts : ℕ → Account) (whole : List Link) : Type 0 where
   pub few : n.ports ≤ instrument
   pub each : (port : ℕ) → port < n.ports → IsServedBeside n whole port (accounts port)
-  pub banks : (k : ℕ) (bank : BankConfig) → slice_get n.banks k ≡ Some bank → IsBankOf k bank whole
+  pub banks : (k : ℕ) (bank : BankConfig) → slice_get n.banks k ≡ Some bank → IsBankOfPorts k bank whole
   pub factory : Publish
   pub firsts : List Publish
   pub program : factory.program.program ≡ n.factory
@@ -98,7 +98,7 @@ pub record AreServedTogether (n : Node) (accounts : ℕ → Account) (whole : Li
 -- port's staging is its own.
 pub record HaveLawfulHistory (n : Node) (accounts : ℕ → Account) (whole : List Link) : Type 0 where
   pub history : History
-  pub lawful : IsLawfulButTold n history
+  pub lawful : IsLawfulExceptAnswers n history
   pub happened : (port : ℕ) → port < n.ports → HappenBy port (accounts port).packets (accounts port).deeds (happened_at port history)
   pub elsewhere : (port : ℕ) → n.ports ≤ port → happened_at port history ≡ []
   pub closed : (port : ℕ) → opened history port ≡ None

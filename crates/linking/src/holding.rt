@@ -1,17 +1,17 @@
 //! A link that is held to its end.
 
 ghost use Rattle.std.specs.Prelude.{◌≡◌, ◌≢◌, ◌≤◌, ◌<◌, [], IfErr, IfOk, OnErr, OnOk, length, take};
-ghost use Rattle.frames.specs.Streams.{after, came_in};
+ghost use Rattle.frames.specs.Streams.{reading_after, received_in};
 ghost use Rattle.linking.specs.Linking.{AnswersAll, AnswersFrame, Exchanges, IsCutOff, IsMoved, IsWholeLink, StopsAt, StopsExchange, StopsIn, StopsNext};
 
-use crate::link::{Broken, Cannot, Link, Target};
-use frames::{Came, FrameReader, frames_are_read};
+use crate::link::{LinkEnd, CannotTransfer, Link, Target};
+use frames::{Received, FrameReader, frames_are_read};
 
 /// How many bytes the link is asked for at a time. Any number above 0 gives the same answers.
 const CHUNK: usize = 8192;
 
 /// Sends what is due, if anything is.
-fn send_due<L: Link>(bytes: &[u8], link: &mut L) -> Result<(), Cannot>
+fn send_pending<L: Link>(bytes: &[u8], link: &mut L) -> Result<(), CannotTransfer>
     ensures ok { OnOk result (IsMoved L.sent bytes.now link.old link.new) }
     ensures err { OnErr result (L.unsent link.old bytes.now link.new) }
 {
@@ -22,9 +22,9 @@ fn send_due<L: Link>(bytes: &[u8], link: &mut L) -> Result<(), Cannot>
 }
 
 /// Reports the text that is due, if any is.
-fn tell_due<L: Link>(text: &[u8], link: &mut L) -> Result<(), Cannot>
-    ensures ok { OnOk result (IsMoved L.told text.now link.old link.new) }
-    ensures err { OnErr result (L.untold link.old text.now link.new) }
+fn report_due<L: Link>(text: &[u8], link: &mut L) -> Result<(), CannotTransfer>
+    ensures ok { OnOk result (IsMoved L.reported text.now link.old link.new) }
+    ensures err { OnErr result (L.unreported link.old text.now link.new) }
 {
     if text.is_empty() {
         return Ok(());
@@ -33,20 +33,20 @@ fn tell_due<L: Link>(text: &[u8], link: &mut L) -> Result<(), Cannot>
 }
 
 /// Serves what came with a frame, sends the reply that is due, and then reports the text.
-fn answer<N: Target, L: Link>(came: Came, target: &mut N, link: &mut L) -> Result<(), Broken>
-    ensures ok { OnOk result (AnswersFrame N.served L.sent L.told came
+fn answer<N: Target, L: Link>(received: Received, target: &mut N, link: &mut L) -> Result<(), LinkEnd>
+    ensures ok { OnOk result (AnswersFrame N.served L.sent L.reported received
         target.old target.new link.old link.new) }
-    ensures err { IfErr result (λ why. StopsAt N.served N.unserved L.sent L.told L.unsent L.untold
-        why came target.old target.new link.old link.new) }
+    ensures err { IfErr result (λ why. StopsAt N.served N.unserved L.sent L.reported L.unsent L.unreported
+        why received target.old target.new link.old link.new) }
 {
-    let Ok(due) = target.serve(came) else {
-        return Err(Broken::NoMemory);
+    let Ok(due) = target.serve(received) else {
+        return Err(LinkEnd::NoMemory);
     };
-    if send_due(due.reply.as_slice(), link).is_err() {
-        return Err(Broken::Unsent);
+    if send_pending(due.reply.as_slice(), link).is_err() {
+        return Err(LinkEnd::Unsent);
     }
-    if tell_due(due.text.as_slice(), link).is_err() {
-        return Err(Broken::Untold);
+    if report_due(due.text.as_slice(), link).is_err() {
+        return Err(LinkEnd::Unreported);
     }
     Ok(())
 }
@@ -57,23 +57,23 @@ fn answer_next<N: Target, L: Link>(
     reader: &mut FrameReader,
     target: &mut N,
     link: &mut L,
-) -> Result<usize, Broken>
+) -> Result<usize, LinkEnd>
     requires { bytes.now ≢ [] }
     ensures some { IfOk result (λ count. 0 < count) }
     ensures few { IfOk result (λ count. count ≤ length bytes.now) }
-    ensures read { IfOk result (λ count. reader.new ≡ after reader.old (take count bytes.now)) }
-    ensures answered { IfOk result (λ count. AnswersAll N.served L.sent L.told
-        (came_in reader.old (take count bytes.now)) target.old target.new link.old link.new) }
-    ensures err { IfErr result (λ why. StopsNext N.served N.unserved L.sent L.told L.unsent L.untold
+    ensures read { IfOk result (λ count. reader.new ≡ reading_after reader.old (take count bytes.now)) }
+    ensures answered { IfOk result (λ count. AnswersAll N.served L.sent L.reported
+        (received_in reader.old (take count bytes.now)) target.old target.new link.old link.new) }
+    ensures err { IfErr result (λ why. StopsNext N.served N.unserved L.sent L.reported L.unsent L.unreported
         why bytes.now reader.old reader.new target.old target.new link.old link.new) }
 {
     match reader.take(bytes) {
         Ok((count, None)) => Ok(count),
-        Ok((count, Some(came))) => {
-            answer(came, target, link)?;
+        Ok((count, Some(received))) => {
+            answer(received, target, link)?;
             Ok(count)
         }
-        Err(_) => Err(Broken::NoMemory),
+        Err(_) => Err(LinkEnd::NoMemory),
     }
 }
 
@@ -83,11 +83,11 @@ fn answer_bytes<N: Target, L: Link>(
     reader: &mut FrameReader,
     target: &mut N,
     link: &mut L,
-) -> Result<(), Broken>
-    ensures read { OnOk result (reader.new ≡ after reader.old bytes.now) }
-    ensures answered { OnOk result (AnswersAll N.served L.sent L.told (came_in reader.old bytes.now)
+) -> Result<(), LinkEnd>
+    ensures read { OnOk result (reader.new ≡ reading_after reader.old bytes.now) }
+    ensures answered { OnOk result (AnswersAll N.served L.sent L.reported (received_in reader.old bytes.now)
         target.old target.new link.old link.new) }
-    ensures err { IfErr result (λ why. StopsIn N.served N.unserved L.sent L.told L.unsent L.untold
+    ensures err { IfErr result (λ why. StopsIn N.served N.unserved L.sent L.reported L.unsent L.unreported
         why bytes.now reader.old reader.new target.old target.new link.old link.new) }
 {
     frames_are_read();
@@ -105,15 +105,15 @@ fn exchange<N: Target, L: Link>(
     reader: &mut FrameReader,
     target: &mut N,
     link: &mut L,
-) -> Result<bool, Broken>
-    ensures ok { IfOk result (λ more. Exchanges N.served L.came L.sent L.told more
+) -> Result<bool, LinkEnd>
+    ensures ok { IfOk result (λ more. Exchanges N.served L.received L.sent L.reported more
         reader.old reader.new target.old target.new link.old link.new) }
-    ensures err { IfErr result (λ why. StopsExchange N.served N.unserved L.came L.sent L.told
-        L.unread L.unsent L.untold why
+    ensures err { IfErr result (λ why. StopsExchange N.served N.unserved L.received L.sent L.reported
+        L.unread L.unsent L.unreported why
         reader.old reader.new target.old target.new link.old link.new) }
 {
     let Ok(count) = link.receive(room) else {
-        return Err(Broken::Unread);
+        return Err(LinkEnd::Unread);
     };
     if count == 0 {
         return Ok(false);
@@ -133,11 +133,11 @@ pub fn hold<N: Target, L: Link>(
     reader: &mut FrameReader,
     target: &mut N,
     link: &mut L,
-) -> Result<(), Broken>
-    ensures ok { OnOk result (IsWholeLink N.served L.came L.sent L.told
+) -> Result<(), LinkEnd>
+    ensures ok { OnOk result (IsWholeLink N.served L.received L.sent L.reported
         reader.old reader.new target.old target.new link.old link.new) }
-    ensures err { IfErr result (λ why. IsCutOff N.served N.unserved L.came L.sent L.told
-        L.unread L.unsent L.untold why
+    ensures err { IfErr result (λ why. IsCutOff N.served N.unserved L.received L.sent L.reported
+        L.unread L.unsent L.unreported why
         reader.old reader.new target.old target.new link.old link.new) }
 {
     let mut room = [0; CHUNK];

@@ -5,4 +5,4 @@ pub mod holding;
 pub mod link;
 
 pub use holding::hold;
-pub use link::{Broken, Cannot, Due, Link, Target};
+pub use link::{LinkEnd, CannotTransfer, PendingOutput, Link, Target};

@@ -14,7 +14,7 @@ use Rattle.rmap.specs.Checks.{body_line, data_of}
 use Rattle.rmap.specs.Reply.{reply_of}
 use Rattle.rmap.specs.Verdict.{verdict_of}
 use Rattle.bank.specs.Answer.{Answer, answer, answer_at, first_line, status_with, verdict_line}
-use Rattle.bank.specs.Effect.{Memory, after_write, byte_after_data, byte_at, bytes_read, effect_of, memory_at}
+use Rattle.bank.specs.Effect.{Memory, after_write, byte_after_data, byte_at, bytes_read, command_effect_of, memory_at}
 
 -- a command with verdict 0 and a right body is executed if there is room
 pub executed : (m : Memory) (c : CommandValue) (v : ℕ) → v ≡ 0 → body_line c ≡ None → answer m true c v ≡ answer_at Success m c
@@ -24,11 +24,11 @@ executed m c v pass right =
 
 -- a write puts its new bytes into memory
 pub written : (m : Memory) (c : CommandValue) (v : ℕ) → v ≡ 0 → body_line c ≡ None → command_kind c ≡ Write → (answer m true c v).memory ≡ after_write m c (data_of c)
-written m c v pass right kind = ap (λ (a : Answer). a.memory) (executed m c v pass right) ∙ ap (λ (k : Kind). (effect_of k m c).memory) kind
+written m c v pass right kind = ap (λ (a : Answer). a.memory) (executed m c v pass right) ∙ ap (λ (k : Kind). (command_effect_of k m c).memory) kind
 
 -- a read is answered with what it reads
 pub answered : (m : Memory) (c : CommandValue) (v : ℕ) → v ≡ 0 → body_line c ≡ None → command_kind c ≡ Read → (answer m true c v).reply ≡ reply_of c Success (bytes_read m c (length_of c))
-answered m c v pass right kind = ap (λ (a : Answer). a.reply) (executed m c v pass right) ∙ ap (λ (k : Kind). reply_of c Success (effect_of k m c).reply) kind
+answered m c v pass right kind = ap (λ (a : Answer). a.reply) (executed m c v pass right) ∙ ap (λ (k : Kind). reply_of c Success (command_effect_of k m c).reply) kind
 
 -- as many bytes stay
 pub length_stays : (bytes : List ℕ) (c : CommandValue) (new : List ℕ) → length (after_write (memory_at 0 bytes) c new).bytes ≡ length bytes

@@ -20,7 +20,7 @@ use Rattle.initiator.specs.declared.requests.Request.{Request}
 use Rattle.initiator.specs.declared.write.CommandFields.{CommandFields}
 use Rattle.initiator.specs.Laws.{MadeCommandsAreRead}
 use Rattle.initiator.specs.LoadPackets.{AreFieldsOf, IsTakenAt, LoadPacketsAreTaken}
-use Rattle.initiator.specs.Loads.{control_bytes, control_request, part_of, result_request, stage_request}
+use Rattle.initiator.specs.Loads.{control_bytes_of, control_request, part_of, result_request, stage_request}
 use Rattle.initiator.specs.Writing.{AreFields, command_with}
 use Rattle.loading.specs.Sent.{IsSent}
 
@@ -32,9 +32,9 @@ parts_again f body end h =
     let p : Cargo = record { bytes = bytes_of (command_with f body); end = end } in
     let count : length path ≡ path_length p.bytes = h.address in
     let n = path_length p.bytes in
-    let behind : drop 4 p.bytes ≡ path ++ (tail ++ body) = append_assoc path tail body in
-    let is_path : take n (drop 4 p.bytes) ≡ path = ap (take n) behind ∙ take_at path (tail ++ body) n count in
-    let rest : drop (4 + n) p.bytes ≡ tail ++ body = sym (drop-drop n 4 p.bytes) ∙ ap (drop n) behind ∙ drop_at path (tail ++ body) n count in
+    let following : drop 4 p.bytes ≡ path ++ (tail ++ body) = append_assoc path tail body in
+    let is_path : take n (drop 4 p.bytes) ≡ path = ap (take n) following ∙ take_at path (tail ++ body) n count in
+    let rest : drop (4 + n) p.bytes ≡ tail ++ body = sym (drop-drop n 4 p.bytes) ∙ ap (drop n) following ∙ drop_at path (tail ++ body) n count in
     let is_tail : take 12 (drop (4 + n) p.bytes) ≡ tail = ap (take 12) rest ∙ take_at tail body 12 refl in
     let place : 16 + n ≡ 4 + n + 12 = omega arith in
     let is_body : drop (16 + n) p.bytes ≡ body = ap (λ k. drop k p.bytes) place ∙ sym (drop-drop 12 (4 + n) p.bytes) ∙ ap (drop 12) rest ∙ drop_at tail body 12 refl in
@@ -111,13 +111,13 @@ is_part keeps reads law w transaction image number p none short within sent =
 -- the control write
 pub record IsControl (w : WindowsValue) (slot : ℕ) (image : List ℕ) (p : Cargo) (c : CommandValue) : Type 0 where
   pub taken : IsTaken w p c Write Control 65536 4
-  pub body : c.body ≡ with_crc (control_bytes slot image)
+  pub body : c.body ≡ with_crc (control_bytes_of slot image)
 
 pub is_control : CommandsAreKept → MadeCommandsAreRead → LoadPacketsAreTaken → (w : WindowsValue) (transaction slot : ℕ) (image : List ℕ) (p : Cargo)
-    → slice_get w.banks 255 ≡ None → IsSent w.node_address (control_request transaction image) (with_crc (control_bytes slot image)) p → (c : CommandValue) × IsControl w slot image p c
+    → slice_get w.banks 255 ≡ None → IsSent w.node_address (control_request transaction image) (with_crc (control_bytes_of slot image)) p → (c : CommandValue) × IsControl w slot image p c
 is_control keeps reads law w transaction slot image p none sent =
     let f = sent.fields in
-    let body = with_crc (control_bytes slot image) in
+    let body = with_crc (control_bytes_of slot image) in
     let at = law.controlled w f transaction image slot (record { target = sent.target; no_bank = none }) sent.are_fields in
     let is = taken keeps reads w (control_request transaction image) f body p Write Control (two_bytes _) (omega arith) refl sent.are_fields sent.bytes sent.end at in
     (command_with f body, record { taken = is; body = refl })

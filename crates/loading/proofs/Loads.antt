@@ -26,7 +26,7 @@ use Rattle.node_parts.specs.Stagings.{answer_at_place, after_place}
 use Rattle.single_node.specs.Nodes.{IsSingleNode, SingleNodeValue, staging_in}
 use Rattle.loading.specs.Sent.{AreOfLoad, IsSent}
 use Rattle.loading.specs.Served.{LetsPassInTurn}
-use Rattle.loading.specs.Told.{IsTold, IsVerdict, LoadsAreTold}
+use Rattle.loading.specs.Reported.{IsLoadReported, IsLoadVerdict, LoadsAreReported}
 use Rattle.loading.proofs.Bytes.{all_read, answered}
 use Rattle.loading.proofs.Commands.{IsControl, IsTaken, is_control, is_read}
 use Rattle.loading.proofs.Passed.{EndsWell, passed}
@@ -63,7 +63,7 @@ result_read w p port h left now next reply c is eight ends =
 record HasEnded (port slot : ℕ) (image : List ℕ) (holder : PassValue) (before now : SingleNodeValue) : Type 0 where
   pub left : PassValue
   pub node : IsAt port holder before now left
-  pub verdict : IsVerdict slot image before.programs now.programs left.staging.load_result
+  pub verdict : IsLoadVerdict slot image before.programs now.programs left.staging.load_result
   pub eight : length left.staging.load_result ≡ 8
 
 -- the control write loads what is staged
@@ -75,17 +75,17 @@ control_ends next_law port slot image holder before now next p reply c short has
     record {
       left = left;
       node = one_more port holder before now next has.left left has.node passes ends.banks (found.windows ∙ ends.windows);
-      verdict = subst (λ (l : List Publish). IsVerdict slot image l next.programs left.staging.load_result) has.programs found.verdict;
+      verdict = subst (λ (l : List Publish). IsLoadVerdict slot image l next.programs left.staging.load_result) has.programs found.verdict;
       eight = found.eight;
     }
 
 -- what is so of a load whose last two replies are these
-told_by : (port slot : ℕ) (image : List ℕ) (holder left : PassValue) (before last after : SingleNodeValue) (read : Cargo) (replies earlier later : List (List ℕ)) (first second : List ℕ) → IsAt port holder before last left → IsVerdict slot image before.programs last.programs left.staging.load_result → after ≡ last
-    → replies ≡ earlier ++ later → later ≡ first ∷ second ∷ [] → second ≡ reply_of (command_of read) Success left.staging.load_result → IsTold port slot image read before after replies
-told_by port slot image holder left before last after read replies earlier later first second node verdict is replies_are same answer_is = record {
+reported_by : (port slot : ℕ) (image : List ℕ) (holder left : PassValue) (before last after : SingleNodeValue) (read : Cargo) (replies earlier later : List (List ℕ)) (first second : List ℕ) → IsAt port holder before last left → IsLoadVerdict slot image before.programs last.programs left.staging.load_result → after ≡ last
+    → replies ≡ earlier ++ later → later ≡ first ∷ second ∷ [] → second ≡ reply_of (command_of read) Success left.staging.load_result → IsLoadReported port slot image read before after replies
+reported_by port slot image holder left before last after read replies earlier later first second node verdict is replies_are same answer_is = record {
   holder = left;
   passes = ap (λ (n : SingleNodeValue). n.passes) is ∙ node.passes;
-  verdict = subst (λ (n : SingleNodeValue). IsVerdict slot image before.programs n.programs left.staging.load_result) (sym is) verdict;
+  verdict = subst (λ (n : SingleNodeValue). IsLoadVerdict slot image before.programs n.programs left.staging.load_result) (sym is) verdict;
   earlier = earlier ++ first ∷ [];
   answered = replies_are ∙ ap (λ (l : List (List ℕ)). earlier ++ l) same
       ∙ sym (append_assoc earlier (first ∷ []) (second ∷ [])) ∙ ap (λ (l : List ℕ). earlier ++ first ∷ [] ++ l ∷ []) answer_is;
@@ -93,19 +93,19 @@ told_by port slot image holder left before last after read replies earlier later
 }
 
 -- the verdict stays if what was published and the load result do
-verdict_stays : (slot : ℕ) (image : List ℕ) (old new next : List Publish) (result left : List ℕ) → next ≡ new → left ≡ result → IsVerdict slot image old new result → IsVerdict slot image old next left
+verdict_stays : (slot : ℕ) (image : List ℕ) (old new next : List Publish) (result left : List ℕ) → next ≡ new → left ≡ result → IsLoadVerdict slot image old new result → IsLoadVerdict slot image old next left
 verdict_stays slot image old new next result left same kept verdict =
-    subst (λ (l : List Publish). IsVerdict slot image old l left) (sym same) (subst (λ (r : List ℕ). IsVerdict slot image old new r) (sym kept) verdict)
+    subst (λ (l : List Publish). IsLoadVerdict slot image old l left) (sym same) (subst (λ (r : List ℕ). IsLoadVerdict slot image old new r) (sym kept) verdict)
 
 -- the control write and the read after it
-ends_told : CommandsAreKept → MadeCommandsAreRead → LoadPacketsAreTaken → IsSetByNext → (transaction port slot : ℕ) (image : List ℕ) (holder : PassValue) (before after : SingleNodeValue) (packets : List Cargo) (replies : List (List ℕ))
+ends_reported : CommandsAreKept → MadeCommandsAreRead → LoadPacketsAreTaken → IsSetByNext → (transaction port slot : ℕ) (image : List ℕ) (holder : PassValue) (before after : SingleNodeValue) (packets : List Cargo) (replies : List (List ℕ))
     → slice_get holder.windows.banks 255 ≡ None → length image ≤ 16384 → port < length before.passes → (load : AreOfLoad holder.windows.node_address transaction slot image packets)
     → (done : AreStaged port image holder before (load.control ∷ load.read ∷ []) after replies) → (later : List (List ℕ)) → done.later ≡ later
-    → LetsPassInTurn port (load.control ∷ load.read ∷ []) done.now after later → IsTold port slot image load.read before after replies
-ends_told keeps reads law next transaction port slot image holder before after packets replies none short below load done [] same turn = absurd turn
-ends_told keeps reads law next transaction port slot image holder before after packets replies none short below load done (first ∷ []) same turn = absurd turn.2
-ends_told keeps reads law next transaction port slot image holder before after packets replies none short below load done (first ∷ second ∷ third ∷ more) same turn = absurd turn.2.2
-ends_told keeps reads law next transaction port slot image holder before after packets replies none short below load done (first ∷ second ∷ []) same turn =
+    → LetsPassInTurn port (load.control ∷ load.read ∷ []) done.now after later → IsLoadReported port slot image load.read before after replies
+ends_reported keeps reads law next transaction port slot image holder before after packets replies none short below load done [] same turn = absurd turn
+ends_reported keeps reads law next transaction port slot image holder before after packets replies none short below load done (first ∷ []) same turn = absurd turn.2
+ends_reported keeps reads law next transaction port slot image holder before after packets replies none short below load done (first ∷ second ∷ third ∷ more) same turn = absurd turn.2.2
+ends_reported keeps reads law next transaction port slot image holder before after packets replies none short below load done (first ∷ second ∷ []) same turn =
     let w = holder.windows in
     let has = done.has in
     let control = is_control keeps reads law w transaction slot image load.control none load.is_control in
@@ -115,14 +115,14 @@ ends_told keeps reads law next transaction port slot image holder before after p
     let read = is_read keeps reads law w transaction image load.read none load.is_read in
     let read_taken = subst (λ (x : WindowsValue). IsTaken x load.read read.0 Read LoadResult 65536 8) (sym ended.node.windows) read.1 in
     let last = turn.2.0 in
-    let tells = passed load.read port turn.0 last ended.left second read.0 Read LoadResult 65536 8 (own port holder before turn.0 ended.left below ended.node) read_taken tt turn.2.1 in
-    let told = result_read ended.left.windows load.read port ended.left tells.left turn.0 last second read.0 read_taken ended.eight tells.ends in
-    let node = one_more port holder before turn.0 last ended.left tells.left ended.node tells.passes tells.ends.banks told.2 in
-    let result : tells.left.staging.load_result ≡ ended.left.staging.load_result = ap (λ (s : Staged). s.load_result) told.1 in
-    let verdict = verdict_stays slot image before.programs turn.0.programs last.programs ended.left.staging.load_result tells.left.staging.load_result told.3 result ended.verdict in
-    let answer_is : second ≡ reply_of (command_of load.read) Success tells.left.staging.load_result =
-    told.0 ∙ ap (λ (x : CommandValue). reply_of x Success ended.left.staging.load_result) (sym read.1.command) ∙ ap (λ (r : List ℕ). reply_of (command_of load.read) Success r) (sym result) in
-    told_by port slot image holder tells.left before last after load.read replies done.earlier done.later first second node verdict turn.2.2 done.replies_are same answer_is
+    let reports = passed load.read port turn.0 last ended.left second read.0 Read LoadResult 65536 8 (own port holder before turn.0 ended.left below ended.node) read_taken tt turn.2.1 in
+    let reported = result_read ended.left.windows load.read port ended.left reports.left turn.0 last second read.0 read_taken ended.eight reports.ends in
+    let node = one_more port holder before turn.0 last ended.left reports.left ended.node reports.passes reports.ends.banks reported.2 in
+    let result : reports.left.staging.load_result ≡ ended.left.staging.load_result = ap (λ (s : Staged). s.load_result) reported.1 in
+    let verdict = verdict_stays slot image before.programs turn.0.programs last.programs ended.left.staging.load_result reports.left.staging.load_result reported.3 result ended.verdict in
+    let answer_is : second ≡ reply_of (command_of load.read) Success reports.left.staging.load_result =
+    reported.0 ∙ ap (λ (x : CommandValue). reply_of x Success ended.left.staging.load_result) (sym read.1.command) ∙ ap (λ (r : List ℕ). reply_of (command_of load.read) Success r) (sym result) in
+    reported_by port slot image holder reports.left before last after load.read replies done.earlier done.later first second node verdict turn.2.2 done.replies_are same answer_is
 
 -- a node before the first packet of a load
 at_first : (port : ℕ) (image : List ℕ) (holder : PassValue) (before : SingleNodeValue) → slice_get before.passes port ≡ Some holder → length holder.staging.bytes ≡ 16384 → HasParts port image holder before 0 before
@@ -139,15 +139,15 @@ at_first port image holder before at size = record {
 }
 
 -- all of it, of a node whose port stages that many bytes
-pub loads_are_told : CommandsAreKept → MadeCommandsAreRead → LoadPacketsAreTaken → IsSetByNext → (port : ℕ) (before : SingleNodeValue) (staging : Staged) → IsSingleNode before → staging_in (slice_get before.passes port) ≡ Some staging → length staging.bytes ≡ 16384 → LoadsAreTold port before
-loads_are_told keeps reads law next port before staging is own_staging size holder transaction slot image packets after replies at short load turn =
+pub loads_are_reported : CommandsAreKept → MadeCommandsAreRead → LoadPacketsAreTaken → IsSetByNext → (port : ℕ) (before : SingleNodeValue) (staging : Staged) → IsSingleNode before → staging_in (slice_get before.passes port) ≡ Some staging → length staging.bytes ≡ 16384 → LoadsAreReported port before
+loads_are_reported keeps reads law next port before staging is own_staging size holder transaction slot image packets after replies at short load turn =
     let staged : holder.staging ≡ staging = same_Some holder.staging staging (ap staging_in (sym at) ∙ own_staging) in
     let whole : length holder.staging.bytes ≡ 16384 = ap (λ (s : Staged). length s.bytes) staged ∙ size in
     let below : port < length before.passes = slice_get_within before.passes port holder at in
     let none = no_bank before port holder is at in
-    let behind = load.control ∷ load.read ∷ [] in
-    let all : LetsPassInTurn port (load.parts ++ behind) before after replies = subst (λ (l : List Cargo). LetsPassInTurn port l before after replies) load.in_order turn in
-    let done = parts_staged keeps reads law transaction port image holder before behind after none short below load.parts 0 before replies
+    let following = load.control ∷ load.read ∷ [] in
+    let all : LetsPassInTurn port (load.parts ++ following) before after replies = subst (λ (l : List Cargo). LetsPassInTurn port l before after replies) load.in_order turn in
+    let done = parts_staged keeps reads law transaction port image holder before following after none short below load.parts 0 before replies
     (λ number p found. let place : number ≡ 0 + number = omega arith in subst (λ (n : ℕ). IsSent holder.windows.node_address (stage_request transaction (part_of image n) n) (with_crc (part_of image n)) p) place (load.are_parts.each number p found))
     (omega (arith, load.are_parts.count)) (at_first port image holder before at whole) all in
-    ends_told keeps reads law next transaction port slot image holder before after packets replies none short below load done done.later refl done.turn
+    ends_reported keeps reads law next transaction port slot image holder before after packets replies none short below load done done.later refl done.turn

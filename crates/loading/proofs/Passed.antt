@@ -23,7 +23,7 @@ use Rattle.node_parts.specs.Passes.{PassValue}
 use Rattle.node_parts.specs.Served.{EndsAtWindow, IsAnswered, parts}
 use Rattle.node_parts.specs.Steps.{IsStopped}
 use Rattle.single_node.specs.Nodes.{SingleNodeValue}
-use Rattle.single_node.specs.Serving.{IsByLast, IsTold}
+use Rattle.single_node.specs.Serving.{IsByLast, IsServedDetail}
 use Rattle.loading.specs.Served.{LetsPass}
 use Rattle.loading.proofs.Commands.{IsTaken}
 
@@ -63,17 +63,17 @@ ends_well : (served : Served) (g v : ℕ) (p : Cargo) (port : ℕ) (before after
     → IsTaken h.windows p c kind place address count → IsWindow place
     → (answered : IsAnswered served p (parts before.banks before.programs) (parts after.banks after.programs) h left reply)
     → IsByLast served p (parts before.banks before.programs) (parts after.banks after.programs) h left reply answered
-    → IsTold g v served p (parts before.banks before.programs) (parts after.banks after.programs) h left reply answered
+    → IsServedDetail g v served p (parts before.banks before.programs) (parts after.banks after.programs) h left reply answered
     → v ≡ 0 → EndsWell place c port h left before after reply
-ends_well (Stopped stop) g v p port before after h left reply c kind place address count is window answered last told pass =
+ends_well (Stopped stop) g v p port before after h left reply c kind place address count is window answered last reported pass =
     let line : header_line (command_of p) h.windows ≡ None = ap (λ (x : CommandValue). header_line x h.windows) is.command ∙ ap (option_map header_status) is.allowed in
     absurd (unstopped stop p h.windows reply is.kept line answered.0)
-ends_well Unread g v p port before after h left reply c kind place address count is window answered last told pass = absurd told
-ends_well (Done result) g v p port before after h left reply c kind place address count is window answered last told pass =
+ends_well Unread g v p port before after h left reply c kind place address count is window answered last reported pass = absurd reported
+ends_well (Done result) g v p port before after h left reply c kind place address count is window answered last reported pass =
     let lies : place_of c h.windows ≡ Some answered.judged.place = subst (λ (x : CommandValue). place_of x h.windows ≡ Some answered.judged.place) is.command answered.judgement.judged_for.placed.lies in
     let same : place ≡ Bank answered.number = same_Some place answered.judged.place (sym is.lies ∙ lies) ∙ answered.place in
     absurd (subst IsWindow same window)
-ends_well (Window status) g v p port before after h left reply c kind place address count is window answered last told pass =
+ends_well (Window status) g v p port before after h left reply c kind place address count is window answered last reported pass =
     let judgement = answered.judgement in
     let lies : place_of c h.windows ≡ Some answered.judged.place = subst (λ (x : CommandValue). place_of x h.windows ≡ Some answered.judged.place) is.command judgement.judged_for.placed.lies in
     let same : answered.judged.place ≡ place = same_Some answered.judged.place place (sym lies ∙ is.lies) in
@@ -86,7 +86,7 @@ ends_well (Window status) g v p port before after h left reply c kind place addr
       staging = ap (λ (x : PassValue). x.staging) judgement.asked;
       some = subst (λ (l : List Publish). 0 < length l) last.saw (some_judge judgement.seen _ (judgement.program, answered.judged.generation) judgement.taken.shown);
       command = ap command_of judgement.judged_for.packet ∙ is.command;
-      verdict = sym told.1 ∙ pass;
+      verdict = sym reported.1 ∙ pass;
       place_is = same;
       ended = subst (λ (x : Place). EndsAtWindow x answered.between left before.programs after.programs answered.judged status reply) same answered.ended;
     }
@@ -104,7 +104,7 @@ passed p port before after h reply c kind place address count at is window lets 
     let serves = lets.serves.serves in
     let same : serves.holder ≡ h = same_Some serves.holder h (sym serves.own ∙ at) in
     let taken : IsTaken serves.holder.windows p c kind place address count = subst (λ (x : PassValue). IsTaken x.windows p c kind place address count) (sym same) is in
-    let ends = ends_well lets.told.served lets.told.generation lets.told.verdict p port before after serves.holder serves.left reply c kind place address count taken window serves.answered serves.by_last lets.serves.tells lets.pass in
+    let ends = ends_well lets.reported.served lets.reported.generation lets.reported.verdict p port before after serves.holder serves.left reply c kind place address count taken window serves.answered serves.by_last lets.serves.reports lets.pass in
     record {
       left = serves.left;
       passes = serves.others;

@@ -11,7 +11,7 @@ use Rattle.bank.specs.Answer.{first_line, judged_line, verdict_line}
 use Rattle.bank.specs.Records.{JudgedValue}
 use Rattle.bver.specs.Justified.{AcceptedValue}
 use Rattle.machine.specs.Sizes.{Maps}
-use Rattle.initiator.specs.Loads.{control_bytes}
+use Rattle.initiator.specs.Loads.{control_bytes_of}
 use Rattle.node_programs.specs.declared.publishes.Publish.{Publish}
 use Rattle.node_programs.specs.Histories.{longer_history}
 use Rattle.node_programs.specs.Laws.{IsSetByNext}
@@ -24,7 +24,7 @@ use Rattle.rmap.specs.BootRecords.{control_of}
 use Rattle.node_parts.specs.Outcomes.{IsLoadRefusal, WantsMemory, preparing, publishing}
 use Rattle.node_parts.specs.Passes.{PassValue}
 use Rattle.loading.specs.Asked.{ControlDataAreRead, asked_for}
-use Rattle.loading.specs.Told.{IsPublishedAs, IsRefusedAs, IsVerdict}
+use Rattle.loading.specs.Reported.{IsPublishedLoad, IsRefusedAs, IsLoadVerdict}
 
 -- the data of the control write ask for the image in its slot
 pub asks_for : ControlDataAreRead
@@ -71,7 +71,7 @@ judges next old slot program some =
 
 -- a load that published did so with the image
 published : IsSetByNext → (slot : ℕ) (image : List ℕ) (between left : PassValue) (old new : List Publish) (j : JudgedValue) (result : Status) → 0 < length old → control_in j ≡ asked_for slot image → take (length image) between.staging.bytes ≡ image
-    → HasLoaded between left old new j result → IsPublishedAs slot image old new left.staging.load_result
+    → HasLoaded between left old new j result → IsPublishedLoad slot image old new left.staging.load_result
 published next slot image between left old new j result some asks begins has =
     let is = has.published in
     let load : IsPrepared (asked_for slot image) between.staging.bytes (sizes_of old) is.slot is.program = subst (λ (x : ControlData). IsPrepared x between.staging.bytes (sizes_of old) is.slot is.program) asks is.load.0 in
@@ -84,7 +84,7 @@ published next slot image between left old new j result some asks begins has =
       load = (there, is.load.1);
       extends = extends;
       judges = ap (λ (l : List Publish). judging_program l slot) extends ∙ judges next old slot is.program some;
-      told = ap (λ (h : PassValue). h.staging.load_result) has.holder_after ∙ ap published_result is.place;
+      reported = ap (λ (h : PassValue). h.staging.load_result) has.holder_after ∙ ap published_result is.place;
     }
 
 -- a load that was refused was so with the image
@@ -97,17 +97,17 @@ refused slot image between left old new j result asks begins has =
       refusal = has.refusal;
       refused = refuses (asked_for slot image) between.staging.bytes image (sizes_of old) (length old) has.refusal bytes why;
       same = has.same;
-      told = ap (λ (h : PassValue). h.staging.load_result) has.holder_after;
+      reported = ap (λ (h : PassValue). h.staging.load_result) has.holder_after;
     }
 
 -- what a load leaves of its port: the verdict as the load result, eight bytes, and the windows as they were
 pub record HasVerdict (slot : ℕ) (image : List ℕ) (between left : PassValue) (old new : List Publish) : Type 0 where
-  pub verdict : IsVerdict slot image old new left.staging.load_result
+  pub verdict : IsLoadVerdict slot image old new left.staging.load_result
   pub eight : length left.staging.load_result ≡ 8
   pub windows : left.windows ≡ between.windows
 
 pub verdict_of_load : IsSetByNext → (slot : ℕ) (image : List ℕ) (between left : PassValue) (old new : List Publish) (j : JudgedValue) (result : Status) (c : CommandValue) → 0 < length old → length image ≤ 16384
-    → command_of j.packet ≡ c → j.verdict ≡ 0 → body_line c ≡ None → c.body ≡ with_crc (control_bytes slot image) → take (length image) between.staging.bytes ≡ image
+    → command_of j.packet ≡ c → j.verdict ≡ 0 → body_line c ≡ None → c.body ≡ with_crc (control_bytes_of slot image) → take (length image) between.staging.bytes ≡ image
     → EndsAs (judged_line (command_of j.packet) j.verdict) between left old new j result → HasVerdict slot image between left old new
 verdict_of_load next slot image between left old new j result c some short command pass right body begins ended =
     let line : judged_line (command_of j.packet) j.verdict ≡ None =

@@ -1,4 +1,4 @@
 pub mod Asked
 pub mod Sent
 pub mod Served
-pub mod Told
+pub mod Reported

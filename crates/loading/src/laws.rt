@@ -2,7 +2,7 @@
 
 ghost use Rattle.std.specs.Prelude.{◌<◌, length};
 ghost use Rattle.loading.specs.Asked.{ControlDataAreRead};
-ghost use Rattle.loading.specs.Told.{LoadsAreTold};
+ghost use Rattle.loading.specs.Reported.{LoadsAreReported};
 
 use initiator::{load_packets_are_taken, made_commands_are_read};
 use node_programs::published_programs;
@@ -19,9 +19,9 @@ pub fn control_data_are_read()
 /// the load result of that port is the verdict on the image. The image is published in the slot of the load, or
 /// refused. The packet that reads the load result is answered with it, and no bank changes. The condition is a port of
 /// the node ([`SingleNode::ports`]).
-pub fn loads_are_told(node: &SingleNode, port: u8)
+pub fn loads_are_reported(node: &SingleNode, port: u8)
     requires { port < length node.now.passes }
-    ensures { LoadsAreTold port node.now }
+    ensures { LoadsAreReported port node.now }
 {
     discard_is_exact();
     made_commands_are_read();

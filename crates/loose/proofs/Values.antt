@@ -33,7 +33,7 @@ use Rattle.core.specs.declared.option.Option.TheVariants.{None, Some}
 use Rattle.std.specs.contracts.alloc.Global as heap
 use Rattle.std.proofs.alloc.Global.TheLaws as heap_laws
 use Rattle.std.specs.contracts.impls.GlobalAllocator.TheImpl.{ghosts}
-use Rattle.loose.specs.Held.{held, may_free}
+use Rattle.loose.specs.Held.{held_handle, may_free}
 use Rattle.loose.specs.contracts.loose.Loose as contract
 
 abbrev pub parts : ℕ → ℕ → Val → Val
@@ -93,6 +93,6 @@ module _ (mark : ℕ) (C : RattleType) {M : Type 1} {𝓤 : Ura M} {𝓛 : Logic
   pub holds : K → (p : Ptr) (n : ℕ) (k : Option C.Denot)
       → (k ≡ None → n ≡ 0 → Seq K 𝓛 Γ G)
       → ((b o : ℕ) (x : C.Denot) → k ≡ Some x → n ≡ mark → p ≡ block_ptr b o → Seq K 𝓛 (‵ (box_owns may_free C (block_ptr b o) x) ∷ Γ) G)
-      → Seq K 𝓛 (‵ (held mark C p n k) ∷ Γ) G
+      → Seq K 𝓛 (‵ (held_handle mark C p n k) ∷ Γ) G
   holds t p n None f g = feq_l t (λ e. f refl e)
   holds t p n (Some x) f g = fsplit t $ feq_l t (λ e. in_a_block t p (λ q. box_owns may_free C q x) (fst∗ 𝓤 (never 𝓤) (sem 𝓛 (may_free (bare (lone C.mir)) null_ptr))) (λ b o e'. g b o x refl e e'))

@@ -12,6 +12,6 @@ abbrev pub may_free : Ty → Ptr → Fml
 may_free = ghosts.dealloc_token (record { memory = record { seal = tt } })
 
 -- nothing and a 0 in `live`, or the handle's mark and the block of the value
-abbrev pub held : (mark : ℕ) (R : RattleType) → Ptr → (live : ℕ) → Option R.Denot → Fml
-held mark R p live None = feq ℕ live 0
-held mark R p live (Some x) = fsep (feq ℕ live mark) (box_owns may_free R p x)
+abbrev pub held_handle : (mark : ℕ) (R : RattleType) → Ptr → (live : ℕ) → Option R.Denot → Fml
+held_handle mark R p live None = feq ℕ live 0
+held_handle mark R p live (Some x) = fsep (feq ℕ live mark) (box_owns may_free R p x)

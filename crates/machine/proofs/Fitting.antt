@@ -30,9 +30,9 @@ use Rattle.machine.specs.declared.values.Value.{Value}
 use Rattle.machine.specs.declared.values.Value.TheVariants.{Unset, Num, Ptr, Map}
 use Rattle.machine.specs.Words.{modulus, low_part, word, alu_words, negation, sign_extension, swapped_bytes}
 use Rattle.bpf_parts.specs.Sizes.{load_bytes}
-use Rattle.machine.specs.Memory.{Header, IsHeader, place_of, byte_of, byte_after, byte_below, little_endian, loaded_value}
+use Rattle.machine.specs.Memory.{Header, IsProgramHeader, region_place_of, byte_of, byte_after, byte_below, little_endian, loaded_value}
 use Rattle.machine.specs.State.{State, state, entry_state}
-use Rattle.machine.specs.Step.{Outcome, Next, Ask, Verdict, Trap, operand, number_result, copied_value, moved_value, moved_pointer, alu, writes, load_value, bytes_at, loads, map_at, after_answer, exits, perform, knows_flow, perform_in, insn_at, step}
+use Rattle.machine.specs.Step.{Outcome, Next, Ask, Verdict, Trap, operand, number_result, copied_value, moved_value, moved_pointer, alu, writes, load_value, region_bytes_at, loads, map_at, after_answer, exits, perform, knows_flow, perform_in, insn_at, step}
 use Rattle.machine.specs.Runs.{Path, entry, moves, Runs}
 use Rattle.machine.specs.Runs as runs
 use Rattle.machine.specs.Laws.{FitsWord, FitsByte, IsBounded}
@@ -200,7 +200,7 @@ IsBoundedAfter (Ask question on) = (answer : ℕ) → answer < 2 ^ 64 → IsBoun
 IsBoundedAfter (Verdict verdict) = verdict < 2 ^ 64
 IsBoundedAfter Trap = Unit {0}
 
-module _ (header : Header) (s : State) (is_header : IsHeader header) (bounded : IsBounded s) where
+module _ (header : Header) (s : State) (is_header : IsProgramHeader header) (bounded : IsBounded s) where
   writes_fit : (next register : ℕ) (v : Option Value) → FitsResult v → IsBoundedAfter (writes s next register v)
   writes_fit next register None h = tt
   writes_fit next register (Some v) h =
@@ -216,7 +216,7 @@ module _ (header : Header) (s : State) (is_header : IsHeader header) (bounded : 
   byte_of_fits Tail place = byte_in header.tail place is_header.tail_bytes
   byte_of_fits Stack place = bounded.bytes place
 
-  bytes_fit : (region : Region) (bytes : ℕ) (place : Option ℕ) → IsBelow (256 ^ bytes) (bytes_at header s.stack region bytes place)
+  bytes_fit : (region : Region) (bytes : ℕ) (place : Option ℕ) → IsBelow (256 ^ bytes) (region_bytes_at header s.stack region bytes place)
   bytes_fit region bytes None = tt
   bytes_fit region bytes (Some place) = little_fits (byte_of header s.stack region) (byte_of_fits region) bytes place
 
@@ -224,7 +224,7 @@ module _ (header : Header) (s : State) (is_header : IsHeader header) (bounded : 
   loads_fit size Unset offset = tt
   loads_fit size (Num n) offset = tt
   loads_fit size (Ptr region start) offset =
-      load_value_fits size _ (bytes_fit region (load_bytes size) (place_of region (load_bytes size) (start +ℤ offset)))
+      load_value_fits size _ (bytes_fit region (load_bytes size) (region_place_of region (load_bytes size) (start +ℤ offset)))
   loads_fit size (Map index) offset = tt
 
   moves_fit : (slot : ℕ) → IsBoundedAfter (Next (state slot s.registers s.stack))
@@ -291,12 +291,12 @@ insn_in false (None ∷ xs) slot h = absurd h
 insn_in false (Some insn ∷ xs) zero h = h.0
 insn_in false (Some insn ∷ xs) (suc slot) h = insn_in (is_some (second_immediate insn)) xs slot h.1
 
-perform_in_fits : (version : Version) (header : Header) (s : State) (insn : Option Insn) → IsHeader header → IsBounded s → IsInsnAt insn → IsBoundedAfter (perform_in version header s insn)
+perform_in_fits : (version : Version) (header : Header) (s : State) (insn : Option Insn) → IsProgramHeader header → IsBounded s → IsInsnAt insn → IsBoundedAfter (perform_in version header s insn)
 perform_in_fits version header s None is_header bounded i = tt
 perform_in_fits version header s (Some insn) is_header bounded i =
     where_so IsBoundedAfter tt (knows_flow version (flow_of insn)) _ (perform_fits header s is_header bounded insn i)
 
-step_fits : (program : Program) (header : Header) (s : State) → IsProgram program → IsHeader header → IsBounded s → IsBoundedAfter (step program header s)
+step_fits : (program : Program) (header : Header) (s : State) → IsProgram program → IsProgramHeader header → IsBounded s → IsBoundedAfter (step program header s)
 step_fits program header s is_program is_header bounded =
     perform_in_fits program.version header s (insn_at program s.slot) is_header bounded (insn_in false program.slots s.slot is_program.code)
 
@@ -311,7 +311,7 @@ entry_fits port h =
       bytes = λ place. tt;
     }
 
-pub numbers_fit : (program : Program) (header : Header) (port : ℕ) (calls : List Call) (n : ℕ) (s : State) → IsProgram program → IsHeader header → port < 32 → Path program header port calls n s → IsBounded s
+pub numbers_fit : (program : Program) (header : Header) (port : ℕ) (calls : List Call) (n : ℕ) (s : State) → IsProgram program → IsProgramHeader header → port < 32 → Path program header port calls n s → IsBounded s
 numbers_fit program header port _ _ _ is_program is_header h entry = entry_fits port h
 numbers_fit program header port _ _ _ is_program is_header h (moves {s = s} path e) =
     subst (λ (o : Outcome). IsBoundedAfter o) e
@@ -320,7 +320,7 @@ numbers_fit program header port _ _ _ is_program is_header h (runs.answered {s =
     subst (λ (o : Outcome). IsBoundedAfter o) e
     (step_fits program header s is_program is_header (numbers_fit program header port _ _ s is_program is_header h path)) answer small
 
-pub verdicts_fit : (program : Program) (header : Header) (port : ℕ) (calls : List Call) (n verdict : ℕ) → IsProgram program → IsHeader header → port < 32 → Runs program header port calls n verdict → verdict < 2 ^ 64
+pub verdicts_fit : (program : Program) (header : Header) (port : ℕ) (calls : List Call) (n verdict : ℕ) → IsProgram program → IsProgramHeader header → port < 32 → Runs program header port calls n verdict → verdict < 2 ^ 64
 verdicts_fit program header port calls n verdict is_program is_header h run =
     subst (λ (o : Outcome). IsBoundedAfter o) run.exit
     (step_fits program header run.last is_program is_header (numbers_fit program header port calls run.before run.last is_program is_header h run.path))

@@ -37,7 +37,7 @@ published_of control staging sizes old new known seen slot program generation sa
   load = (subst (λ (s : Maps). IsPrepared control staging s slot program) same prepared, few);
   extends = extends;
   place = place;
-  told = prefix_same new seen learnt;
+  reported = prefix_same new seen learnt;
   keeps = subst (λ (l : List Publish). IsPrefix known l) (sym (learnt ∙ extends)) (prefix_longer known old _ begins);
   learnt = learnt;
 }
@@ -49,14 +49,14 @@ pub ends_loaded : (b : RunContextValue) (known seen : List Publish) (shares : Li
     → result ≡ Success → left ≡ staged staging.bytes loaded → loaded ≡ published_result generation
     → bytes ≡ reply_of (command_of j.packet) result []
     → IsLoadEnd (pass_of b known shares staging) (pass_of b seen shares left) old new j result bytes
-ends_loaded b known seen shares staging left old new j result bytes loaded control generation none asks published status kept tells reply =
+ends_loaded b known seen shares staging left old new j result bytes loaded control generation none asks published status kept reports reply =
     let holder = pass_of b known shares staging in
     let after = pass_of b seen shares left in
     let has : HasLoaded holder after old new j result = record {
       generation = generation;
       published = subst (λ (x : ControlData). IsPublished x staging.bytes old new known seen generation) asks published;
       status = status;
-      holder_after = ap (λ (s : Staged). pass_of b seen shares s) (kept ∙ ap (λ l. staged staging.bytes l) tells);
+      holder_after = ap (λ (s : Staged). pass_of b seen shares s) (kept ∙ ap (λ l. staged staging.bytes l) reports);
     } in
     record { ended = subst (λ (line : Option Status). EndsAs line holder after old new j result) (sym none) (inl has); reply = reply }
 
@@ -67,7 +67,7 @@ pub ends_refused : (b : RunContextValue) (known seen : List Publish) (shares : L
     → result ≡ GeneralError → left ≡ staged staging.bytes loaded → loaded ≡ refused_result refusal
     → bytes ≡ reply_of (command_of j.packet) result []
     → IsLoadEnd (pass_of b known shares staging) (pass_of b seen shares left) old new j result bytes
-ends_refused b known seen shares staging left old new j result bytes loaded control refusal none asks refused knows same status kept tells reply =
+ends_refused b known seen shares staging left old new j result bytes loaded control refusal none asks refused knows same status kept reports reply =
     let holder = pass_of b known shares staging in
     let after = pass_of b seen shares left in
     let has : HasRefused holder after old new j result = record {
@@ -75,6 +75,6 @@ ends_refused b known seen shares staging left old new j result bytes loaded cont
       refused = subst (λ (x : ControlData). IsLoadRefusal x staging.bytes (sizes_of old) (length old) refusal) asks refused;
       status = status;
       same = same;
-      holder_after = ap₂ (λ (l : List Publish) (s : Staged). pass_of b l shares s) knows (kept ∙ ap (λ l. staged staging.bytes l) tells);
+      holder_after = ap₂ (λ (l : List Publish) (s : Staged). pass_of b l shares s) knows (kept ∙ ap (λ l. staged staging.bytes l) reports);
     } in
     record { ended = subst (λ (line : Option Status). EndsAs line holder after old new j result) (sym none) (inr has); reply = reply }

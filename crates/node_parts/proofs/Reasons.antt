@@ -18,14 +18,14 @@ use Rattle.rmap.specs.declared.boot_records.ControlData.{ControlData}
 use Rattle.node_parts.specs.declared.refusal.LoadRefusal.{LoadRefusal}
 use Rattle.node_parts.specs.declared.refusal.LoadRefusal.TheVariants.{Control, Slot, Image, Program as Unverified, GenerationsFull}
 use Rattle.node_parts.specs.Loads.{IsUnpreparedBy, IsUnspelled, IsUnverified, control_fault, load_refusal_code, load_refusal_slot, loaded_bytes, wants_image_memory, wants_verifier_memory}
-use Rattle.node_parts.specs.Laws.{IsControlCode, IsVerifierCode, RefusalsTellWhy, TellsWhy}
+use Rattle.node_parts.specs.Laws.{IsControlCode, IsVerifierCode, RefusalsSayWhy, SaysWhy}
 use Rattle.node_parts.proofs.Refusals.{control_faults, image_codes_few}
 
 -- a code above 18 is none of the verifier's
 not_verifier : (code : ℕ) → 19 ≤ code → IsVerifierCode code → ⊥
 not_verifier code high own = elim own [ inl low ↦ absurd (omega (arith, high, low)) | inr is ↦ absurd (omega (arith, high, is)) ]
 
-by_control : (control : ControlData) (staged : List ℕ) (sizes : Maps) (count : ℕ) → control_fault control ≡ Some Control → TellsWhy control staged sizes count Control
+by_control : (control : ControlData) (staged : List ℕ) (sizes : Maps) (count : ℕ) → control_fault control ≡ Some Control → SaysWhy control staged sizes count Control
 by_control control staged sizes count is = record {
   control_is_wrong = (λ e. inl refl, λ w. is);
   unspelled = λ low high. absurd (omega (arith, high));
@@ -35,7 +35,7 @@ by_control control staged sizes count is = record {
   no_want = refl;
 }
 
-by_slot : (control : ControlData) (staged : List ℕ) (sizes : Maps) (count : ℕ) → control_fault control ≡ Some Slot → TellsWhy control staged sizes count Slot
+by_slot : (control : ControlData) (staged : List ℕ) (sizes : Maps) (count : ℕ) → control_fault control ≡ Some Slot → SaysWhy control staged sizes count Slot
 by_slot control staged sizes count is = record {
   control_is_wrong = (λ e. inr refl, λ w. is);
   unspelled = λ low high. absurd (omega (arith, high));
@@ -74,7 +74,7 @@ image_wants_none image_faults.Loop other = refl
 image_wants_none (image_faults.Insn slot fault) other = refl
 image_wants_none image_faults.Memory other = absurd (other refl)
 
-by_image : (control : ControlData) (staged : List ℕ) (sizes : Maps) (count : ℕ) (fault : ImageFault) → control_fault control ≡ None → fault ≢ image_faults.Memory → ((p : Program) → IsProgram p → loaded_bytes control staged ≢ image_bytes p) → TellsWhy control staged sizes count (Image fault)
+by_image : (control : ControlData) (staged : List ℕ) (sizes : Maps) (count : ℕ) (fault : ImageFault) → control_fault control ≡ None → fault ≢ image_faults.Memory → ((p : Program) → IsProgram p → loaded_bytes control staged ≢ image_bytes p) → SaysWhy control staged sizes count (Image fault)
 by_image control staged sizes count fault none other spells_none =
     let few = image_codes_few fault in
     record {
@@ -148,7 +148,7 @@ placed known p r program why other = elim why [
   | of_memory formed code slot ↦ absurd (other code)
 ]
 
-by_verifier : FaultIsKnown → (control : ControlData) (staged : List ℕ) (sizes : Maps) (count : ℕ) (refused : Refused) → control_fault control ≡ None → IsUnverified (loaded_bytes control staged) sizes (Unverified refused) → TellsWhy control staged sizes count (Unverified refused)
+by_verifier : FaultIsKnown → (control : ControlData) (staged : List ℕ) (sizes : Maps) (count : ℕ) (refused : Refused) → control_fault control ≡ None → IsUnverified (loaded_bytes control staged) sizes (Unverified refused) → SaysWhy control staged sizes count (Unverified refused)
 by_verifier known control staged sizes count refused none is =
     let few = refusal_codes_few refused.code in
     let same : refused ≡ is.refused = unverified_same refused is.refused is.is in
@@ -166,7 +166,7 @@ by_verifier known control staged sizes count refused none is =
     unverified_same : (a b : Refused) → Unverified a ≡ Unverified b → a ≡ b
     unverified_same a b e = cc
 
-by_publishing : (control : ControlData) (staged : List ℕ) (sizes : Maps) (count : ℕ) → control_fault control ≡ None → 2 ^ 32 ≤ count → TellsWhy control staged sizes count GenerationsFull
+by_publishing : (control : ControlData) (staged : List ℕ) (sizes : Maps) (count : ℕ) → control_fault control ≡ None → 2 ^ 32 ≤ count → SaysWhy control staged sizes count GenerationsFull
 by_publishing control staged sizes count none all = record {
   control_is_wrong = no_control control GenerationsFull none (omega arith) (omega arith);
   unspelled = λ low high. absurd (omega (arith, high));
@@ -176,19 +176,19 @@ by_publishing control staged sizes count none all = record {
   no_want = refl;
 }
 
-by_fault : FaultIsKnown → (control : ControlData) (staged : List ℕ) (sizes : Maps) (count : ℕ) (refusal : LoadRefusal) (o : Option LoadRefusal) → control_fault control ≡ o → IsUnpreparedBy o (loaded_bytes control staged) sizes refusal → TellsWhy control staged sizes count refusal
+by_fault : FaultIsKnown → (control : ControlData) (staged : List ℕ) (sizes : Maps) (count : ℕ) (refusal : LoadRefusal) (o : Option LoadRefusal) → control_fault control ≡ o → IsUnpreparedBy o (loaded_bytes control staged) sizes refusal → SaysWhy control staged sizes count refusal
 by_fault known control staged sizes count refusal (Some fault) is why = elim (control_faults control fault is) [
-  | inl first ↦ subst (λ (r : LoadRefusal). TellsWhy control staged sizes count r) (sym (why ∙ first)) (by_control control staged sizes count (is ∙ ap Some first))
-  | inr second ↦ subst (λ (r : LoadRefusal). TellsWhy control staged sizes count r) (sym (why ∙ second)) (by_slot control staged sizes count (is ∙ ap Some second))
+  | inl first ↦ subst (λ (r : LoadRefusal). SaysWhy control staged sizes count r) (sym (why ∙ first)) (by_control control staged sizes count (is ∙ ap Some first))
+  | inr second ↦ subst (λ (r : LoadRefusal). SaysWhy control staged sizes count r) (sym (why ∙ second)) (by_slot control staged sizes count (is ∙ ap Some second))
 ]
 by_fault known control staged sizes count refusal None is why = elim why [
-  | inl unspelled ↦ subst (λ (r : LoadRefusal). TellsWhy control staged sizes count r) (sym unspelled.is) (by_image control staged sizes count unspelled.fault is unspelled.no_want unspelled.unspelled)
-  | inr unverified ↦ subst (λ (r : LoadRefusal). TellsWhy control staged sizes count r) (sym unverified.is)
+  | inl unspelled ↦ subst (λ (r : LoadRefusal). SaysWhy control staged sizes count r) (sym unspelled.is) (by_image control staged sizes count unspelled.fault is unspelled.no_want unspelled.unspelled)
+  | inr unverified ↦ subst (λ (r : LoadRefusal). SaysWhy control staged sizes count r) (sym unverified.is)
       (by_verifier known control staged sizes count unverified.refused is (subst (λ (r : LoadRefusal). IsUnverified (loaded_bytes control staged) sizes r) unverified.is unverified))
 ]
 
-pub refusals_tell_why : FaultIsKnown → RefusalsTellWhy
-refusals_tell_why known control staged sizes count refusal load = elim load [
+pub refusals_say_why : FaultIsKnown → RefusalsSayWhy
+refusals_say_why known control staged sizes count refusal load = elim load [
   | inl unprepared ↦ by_fault known control staged sizes count refusal (control_fault control) refl unprepared
-  | inr prepared ↦ subst (λ (r : LoadRefusal). TellsWhy control staged sizes count r) (sym prepared.4) (by_publishing control staged sizes count prepared.2.control_is_right prepared.3)
+  | inr prepared ↦ subst (λ (r : LoadRefusal). SaysWhy control staged sizes count r) (sym prepared.4) (by_publishing control staged sizes count prepared.2.control_is_right prepared.3)
 ]

@@ -5,9 +5,9 @@ use Rattle.bpf.specs.Fault.{image_fault_code}
 use Rattle.bpf.specs.declared.fault.ImageFault.{ImageFault}
 use Rattle.bpf.specs.declared.fault.ImageFault.TheVariants as image_faults
 use Rattle.bpf.specs.Program.{Program, IsProgram, image_bytes}
-use Rattle.bpf.specs.Reading.{Fails, image_reading}
+use Rattle.bpf.specs.Reading.{FailsReading, image_reading}
 use Rattle.bver.specs.Justified.{AcceptedValue}
-use Rattle.bver.specs.Unjustified.{TellsUnjustified}
+use Rattle.bver.specs.Unjustified.{ReportsUnjustified}
 use Rattle.bver.specs.Refusals.{IsRefusal, IsValueRefusal, of_form, of_values, of_memory}
 use Rattle.bver_form.specs.Codes.{IsFormCode}
 use Rattle.bver_form.specs.Laws.{FaultIsKnown}
@@ -34,7 +34,7 @@ image_codes_few (image_faults.Insn slot fault) = omega arith
 image_codes_few image_faults.Memory = omega arith
 
 -- a fault, except lack of memory, is not that of bytes that are read
-not_read : (f : ImageFault) (p : Program) → f ≢ image_faults.Memory → Fails f (Ok p) → ⊥
+not_read : (f : ImageFault) (p : Program) → f ≢ image_faults.Memory → FailsReading f (Ok p) → ⊥
 not_read image_faults.Magic p other e = absurd cc
 not_read image_faults.Version p other e = absurd cc
 not_read image_faults.Length p other e = absurd cc
@@ -56,7 +56,7 @@ is_memory image_faults.Memory = inr refl
 
 -- a fault of an image, or lack of memory
 pub unspelled : (bytes : List ℕ) (f : ImageFault) (refusal : LoadRefusal) → refusal ≡ Image f
-    → ((p : Program) → IsProgram p → bytes ≡ image_bytes p → Fails f (Ok p)) → IsUnspelled bytes refusal ⊎ (refusal ≡ Image image_faults.Memory)
+    → ((p : Program) → IsProgram p → bytes ≡ image_bytes p → FailsReading f (Ok p)) → IsUnspelled bytes refusal ⊎ (refusal ≡ Image image_faults.Memory)
 unspelled bytes f refusal is only = elim (is_memory f) [
   | inl other ↦ inl (record {
     fault = f;
@@ -82,21 +82,21 @@ refused_same r code slot c s = ap₂ refused_of c s
 
 -- a refusal of the verifier, or lack of memory
 pub unverified : FaultIsKnown → (bytes : List ℕ) (sizes : Maps) (p : Program) (r : Refused) (refusal : LoadRefusal) → refusal ≡ Unverified r
-    → IsProgram p → bytes ≡ image_bytes p → IsRefusal p r → TellsUnjustified p sizes r → IsUnpreparedBy None bytes sizes refusal ⊎ WantsToVerify bytes refusal
+    → IsProgram p → bytes ≡ image_bytes p → IsRefusal p r → ReportsUnjustified p sizes r → IsUnpreparedBy None bytes sizes refusal ⊎ WantsToVerify bytes refusal
 unverified known bytes sizes p r refusal is program spelled why unjustified = elim why [
-  | of_form fault ↦ told (known_form r.code (known p r program fault).0)
-  | of_values formed fault ↦ told (known_value r.code fault.code)
+  | of_form fault ↦ reported (known_form r.code (known p r program fault).0)
+  | of_values formed fault ↦ reported (known_value r.code fault.code)
   | of_memory formed code slot ↦ inr (inr (p, program, spelled, is ∙ ap Unverified (refused_same r refusals.Memory 0 code slot)))
 ]
   where
-    told : r.code ≢ refusals.Memory → IsUnpreparedBy None bytes sizes refusal ⊎ WantsToVerify bytes refusal
-    told other = inl (inr (record { program = p; is_program = program; spelled = spelled; refused = r; is = is; no_want = other; why = why; unjustified = unjustified other }))
+    reported : r.code ≢ refusals.Memory → IsUnpreparedBy None bytes sizes refusal ⊎ WantsToVerify bytes refusal
+    reported other = inl (inr (record { program = p; is_program = program; spelled = spelled; refused = r; is = is; no_want = other; why = why; unjustified = unjustified other }))
 
 -- the same of what a call comes to that ends so
-pub unverified_told : {A : Type 0} (known : FaultIsKnown) (bytes : List ℕ) (sizes : Maps) (p : Program) (r : Refused) (result : Result A LoadRefusal) → IsErrAnd result (λ (refusal : LoadRefusal). refusal ≡ Unverified r)
-    → IsProgram p → bytes ≡ image_bytes p → IsRefusal p r → TellsUnjustified p sizes r → IfErr result (λ (refusal : LoadRefusal). IsUnpreparedBy None bytes sizes refusal ⊎ WantsToVerify bytes refusal)
-unverified_told known bytes sizes p r (Ok a) is program spelled why unjustified = tt
-unverified_told known bytes sizes p r (Err refusal) is program spelled why unjustified = unverified known bytes sizes p r refusal is program spelled why unjustified
+pub unverified_reported : {A : Type 0} (known : FaultIsKnown) (bytes : List ℕ) (sizes : Maps) (p : Program) (r : Refused) (result : Result A LoadRefusal) → IsErrAnd result (λ (refusal : LoadRefusal). refusal ≡ Unverified r)
+    → IsProgram p → bytes ≡ image_bytes p → IsRefusal p r → ReportsUnjustified p sizes r → IfErr result (λ (refusal : LoadRefusal). IsUnpreparedBy None bytes sizes refusal ⊎ WantsToVerify bytes refusal)
+unverified_reported known bytes sizes p r (Ok a) is program spelled why unjustified = tt
+unverified_reported known bytes sizes p r (Err refusal) is program spelled why unjustified = unverified known bytes sizes p r refusal is program spelled why unjustified
 
 -- the same if the image was refused
 pub unread : (bytes : List ℕ) (sizes : Maps) (refusal : LoadRefusal) → IsUnspelled bytes refusal ⊎ (refusal ≡ Image image_faults.Memory) → IsUnpreparedBy None bytes sizes refusal ⊎ WantsToVerify bytes refusal
@@ -118,11 +118,11 @@ unprepared control staged sizes refusal right why = elim why [
 ]
 
 -- the same of what a call comes to that ends so
-pub unprepared_told : {A : Type 0} (control : ControlData) (staged : List ℕ) (sizes : Maps) (told : LoadRefusal) (result : Result A LoadRefusal) → IsErrAnd result (λ (refusal : LoadRefusal). refusal ≡ told) → control_fault control ≡ None
-    → IsUnpreparedBy None (loaded_bytes control staged) sizes told ⊎ WantsToVerify (loaded_bytes control staged) told
+pub unprepared_reported : {A : Type 0} (control : ControlData) (staged : List ℕ) (sizes : Maps) (reported : LoadRefusal) (result : Result A LoadRefusal) → IsErrAnd result (λ (refusal : LoadRefusal). refusal ≡ reported) → control_fault control ≡ None
+    → IsUnpreparedBy None (loaded_bytes control staged) sizes reported ⊎ WantsToVerify (loaded_bytes control staged) reported
     → IfErr result (λ (refusal : LoadRefusal). IsUnprepared control staged sizes refusal ⊎ WantsToPrepare control staged refusal)
-unprepared_told control staged sizes told (Ok a) is right why = tt
-unprepared_told control staged sizes told (Err refusal) is right why =
+unprepared_reported control staged sizes reported (Ok a) is right why = tt
+unprepared_reported control staged sizes reported (Err refusal) is right why =
     unprepared control staged sizes refusal right (subst (λ (r : LoadRefusal). IsUnpreparedBy None (loaded_bytes control staged) sizes r ⊎ WantsToVerify (loaded_bytes control staged) r) (sym is) why)
 
 -- control data that are wrong
@@ -141,10 +141,10 @@ not_prepared control staged sizes count refusal why = elim why [
 ]
 
 -- the same of what a call comes to that ends so
-pub not_prepared_told : {A : Type 0} (control : ControlData) (staged : List ℕ) (sizes own : Maps) (count : ℕ) (told : LoadRefusal) (result : Result A LoadRefusal) → sizes ≡ own → IsErrAnd result (λ (refusal : LoadRefusal). refusal ≡ told)
-    → IsUnprepared control staged sizes told ⊎ WantsToPrepare control staged told → IfErr result (IsLoadRefusal control staged own count)
-not_prepared_told control staged sizes own count told (Ok a) same is why = tt
-not_prepared_told control staged sizes own count told (Err refusal) same is why =
+pub not_prepared_reported : {A : Type 0} (control : ControlData) (staged : List ℕ) (sizes own : Maps) (count : ℕ) (reported : LoadRefusal) (result : Result A LoadRefusal) → sizes ≡ own → IsErrAnd result (λ (refusal : LoadRefusal). refusal ≡ reported)
+    → IsUnprepared control staged sizes reported ⊎ WantsToPrepare control staged reported → IfErr result (IsLoadRefusal control staged own count)
+not_prepared_reported control staged sizes own count reported (Ok a) same is why = tt
+not_prepared_reported control staged sizes own count reported (Err refusal) same is why =
     subst (λ (s : Maps). IsLoadRefusal control staged s count refusal) same
     (not_prepared control staged sizes count refusal (subst (λ (r : LoadRefusal). IsUnprepared control staged sizes r ⊎ WantsToPrepare control staged r) (sym is) why))
 
@@ -157,17 +157,17 @@ not_published control staged sizes count slot program fault refusal is prepared 
 ]
 
 -- the same of what a call comes to that ends so
-pub not_published_told : {A : Type 0} (control : ControlData) (staged : List ℕ) (sizes own : Maps) (count slot : ℕ) (program : AcceptedValue) (fault : PublishFault) (result : Result A LoadRefusal) → sizes ≡ own → IsErrAnd result (λ (refusal : LoadRefusal). refusal ≡ refusal_of_publishing fault)
+pub not_published_reported : {A : Type 0} (control : ControlData) (staged : List ℕ) (sizes own : Maps) (count slot : ℕ) (program : AcceptedValue) (fault : PublishFault) (result : Result A LoadRefusal) → sizes ≡ own → IsErrAnd result (λ (refusal : LoadRefusal). refusal ≡ refusal_of_publishing fault)
     → IsPrepared control staged sizes slot program → IsUnpublished count fault → IfErr result (IsLoadRefusal control staged own count)
-not_published_told control staged sizes own count slot program fault (Ok a) same is prepared why = tt
-not_published_told control staged sizes own count slot program fault (Err refusal) same is prepared why =
+not_published_reported control staged sizes own count slot program fault (Ok a) same is prepared why = tt
+not_published_reported control staged sizes own count slot program fault (Err refusal) same is prepared why =
     subst (λ (s : Maps). IsLoadRefusal control staged s count refusal) same
     (not_published control staged sizes count slot program fault refusal is prepared why)
 
 -- the fault of an image is the first
-pub first_fault : (bytes : List ℕ) (f : ImageFault) (refusal : LoadRefusal) → refusal ≡ Image f → Fails f (image_reading bytes) → IsFirstFault bytes refusal
+pub first_fault : (bytes : List ℕ) (f : ImageFault) (refusal : LoadRefusal) → refusal ≡ Image f → FailsReading f (image_reading bytes) → IsFirstFault bytes refusal
 first_fault bytes f refusal is fails fault e =
-    subst (λ (g : ImageFault). Fails g (image_reading bytes)) (image_same f fault (sym is ∙ e)) fails
+    subst (λ (g : ImageFault). FailsReading g (image_reading bytes)) (image_same f fault (sym is ∙ e)) fails
   where
     image_same : (a b : ImageFault) → Image a ≡ Image b → a ≡ b
     image_same a b e = cc

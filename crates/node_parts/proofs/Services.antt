@@ -13,7 +13,7 @@ use Rattle.node_programs.specs.declared.publishes.Publish.{Publish}
 use Rattle.node_parts.specs.declared.served.Served.{Served}
 use Rattle.node_parts.specs.declared.served.Served.TheVariants.{Stopped, Unread, Done, Window}
 use Rattle.node_parts.specs.Passes.{PassValue}
-use Rattle.node_parts.specs.Applied.{share_of, with_share, IsApplied, IsEnded, IsRefused}
+use Rattle.node_parts.specs.Applied.{share_of, with_share, IsApplied, IsEndedAtBank, IsRefused}
 use Rattle.node_parts.specs.Loaded.{EndsAs}
 use Rattle.node_parts.specs.Served.{Ending, PartsValue, IsServed, IsAnswered, IsDone, IsUntouched, IsStagedAt, EndsAtWindow}
 use Rattle.node_parts.specs.Steps.{IsJudgement}
@@ -24,13 +24,13 @@ use Rattle.lemmas.proofs.Places.{at_written, at_other}
 
 -- what was done, and another word for how it ended
 ended_by : (E F : Ending) (old new : PartsValue) (h after : PassValue) (p : Cargo) (result : Applied) (reply : List ℕ) → (done : IsDone E old new h after p result reply)
-    → F done.before done.behind (share_of done.between done.judged.place) done.between after done.judged result reply → IsDone F old new h after p result reply
+    → F done.before done.following (share_of done.between done.judged.place) done.between after done.judged result reply → IsDone F old new h after p result reply
 ended_by E F old new h after p result reply done ended = record {
   judged = done.judged;
   between = done.between;
   number = done.number;
   before = done.before;
-  behind = done.behind;
+  following = done.following;
   judgement = done.judgement;
   place = done.place;
   bank = done.bank;
@@ -39,7 +39,7 @@ ended_by E F old new h after p result reply done ended = record {
 }
 
 -- the command was applied
-done_applied : (old new : PartsValue) (h after : PassValue) (p : Cargo) (result : Applied) (reply : List ℕ) → IsPaired old.banks h → (done : IsDone IsEnded old new h after p result reply) → IsApplied done.before done.behind (share_of done.between done.judged.place) done.between after done.judged result reply
+done_applied : (old new : PartsValue) (h after : PassValue) (p : Cargo) (result : Applied) (reply : List ℕ) → IsPaired old.banks h → (done : IsDone IsEndedAtBank old new h after p result reply) → IsApplied done.before done.following (share_of done.between done.judged.place) done.between after done.judged result reply
 done_applied old new h after p result reply paired done =
     done.ended.applied (judged_fits old.banks h done.between p done.judged done.number done.before done.judgement paired done.place done.bank)
 
@@ -50,10 +50,10 @@ answered (Stopped stop) p old new h after reply s paired = s
 answered Unread p old new h after reply s paired = s
 answered (Window status) p old new h after reply s paired = s
 answered (Done result) p old new h after reply done paired =
-    ended_by IsEnded IsApplied old new h after p result reply done (done_applied old new h after p result reply paired done)
+    ended_by IsEndedAtBank IsApplied old new h after p result reply done (done_applied old new h after p result reply paired done)
 
 -- a command that fits was not refused
-never_refused : (old new : PartsValue) (h after : PassValue) (p : Cargo) (result : Applied) (reply : List ℕ) → IsPaired old.banks h → (done : IsDone IsApplied old new h after p result reply) → fits done.before (share_of done.between done.judged.place) done.judged ≡ false → IsRefused done.before done.behind done.between after done.judged result reply
+never_refused : (old new : PartsValue) (h after : PassValue) (p : Cargo) (result : Applied) (reply : List ℕ) → IsPaired old.banks h → (done : IsDone IsApplied old new h after p result reply) → fits done.before (share_of done.between done.judged.place) done.judged ≡ false → IsRefused done.before done.following done.between after done.judged result reply
 never_refused old new h after p result reply paired done unfit =
     let fit = judged_fits old.banks h done.between p done.judged done.number done.before done.judgement paired done.place done.bank in
     let clash : true ≡ false = sym fit ∙ unfit in
@@ -64,7 +64,7 @@ served (Stopped stop) p old new h after reply s paired = s
 served Unread p old new h after reply s paired = s
 served (Window status) p old new h after reply s paired = s
 served (Done result) p old new h after reply done paired =
-    ended_by IsApplied IsEnded old new h after p result reply done
+    ended_by IsApplied IsEndedAtBank old new h after p result reply done
     (record { applied = λ fit. done.ended; refused = never_refused old new h after p result reply paired done })
 
 untouched : (old new : PartsValue) (h after other : PassValue) → IsUntouched old new h after → IsPaired old.banks other → IsPaired new.banks other
@@ -109,12 +109,12 @@ stays_paired keeps (Window status) p old new h after reply s paired =
     subst (λ banks. IsPaired banks after) (sym s.banks) (at_window s.judged.place old.banks s.between after old.programs new.programs s.judged status reply s.ended between)
 
 -- a command of another port leaves a port paired, whether it was applied or not
-behind_paired : ExtentsStay → (old new : PartsValue) (h after other : PassValue) (p : Cargo) (result : Applied) (reply : List ℕ) (done : IsDone IsEnded old new h after p result reply) (fit : Bool) → fits done.before (share_of done.between done.judged.place) done.judged ≡ fit → other.port ≢ h.port → IsPaired old.banks other → IsPaired (set old.banks done.number done.behind) other
-behind_paired keeps old new h after other p result reply done true fit apart paired =
+after_paired : ExtentsStay → (old new : PartsValue) (h after other : PassValue) (p : Cargo) (result : Applied) (reply : List ℕ) (done : IsDone IsEndedAtBank old new h after p result reply) (fit : Bool) → fits done.before (share_of done.between done.judged.place) done.judged ≡ fit → other.port ≢ h.port → IsPaired old.banks other → IsPaired (set old.banks done.number done.following) other
+after_paired keeps old new h after other p result reply done true fit apart paired =
     let share = share_of done.between done.judged.place in
     let far : other.port ≢ done.judged.port = λ e. apart (e ∙ done.judgement.judged_for.port_of) in
     subst (λ b. IsPaired (set old.banks done.number b) other) (sym (done.ended.applied fit).bank) (others_stay_paired keeps old.banks other done.number share done.judged done.before paired far done.bank)
-behind_paired keeps old new h after other p result reply done false fit apart paired =
+after_paired keeps old new h after other p result reply done false fit apart paired =
     subst (λ b. IsPaired (set old.banks done.number b) other) (sym (done.ended.refused fit).bank) (pair_set old.banks done.number done.before done.before other done.bank refl paired (paired.shares done.number done.before done.bank))
 
 -- and every other
@@ -124,7 +124,7 @@ others_paired : ExtentsStay → (served : Served) (p : Cargo) (old new : PartsVa
 others_paired keeps (Stopped stop) p old new h after reply s other apart paired = untouched old new h after other s.1 paired
 others_paired keeps Unread p old new h after reply s other apart paired = untouched old new h after other s.1 paired
 others_paired keeps (Done result) p old new h after reply done other apart paired =
-    subst (λ (x : PartsValue). IsPaired x.banks other) (sym done.node) (behind_paired keeps old new h after other p result reply done (fits done.before (share_of done.between done.judged.place) done.judged) refl apart paired)
+    subst (λ (x : PartsValue). IsPaired x.banks other) (sym done.node) (after_paired keeps old new h after other p result reply done (fits done.before (share_of done.between done.judged.place) done.judged) refl apart paired)
 others_paired keeps (Window status) p old new h after reply s other apart paired =
     subst (λ banks. IsPaired banks other) (sym s.banks) paired
 

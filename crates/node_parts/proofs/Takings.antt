@@ -14,8 +14,8 @@ pub loads_are_taken : IsKeptOrLater → LoadsAreTaken
 loads_are_taken later holder left between after old new j next result p loaded known judgement slot =
     let published_there = loaded.published in
     let seen = judgement.seen in
-    let told : IsPrefix (longer_history old published_there.slot published_there.program) left.programs = subst (λ (l : List Publish). IsPrefix l left.programs) published_there.extends published_there.told in
-    let longer = prefix_trans _ left.programs seen told (prefix_trans left.programs between.programs seen known judgement.taken.longer) in
+    let reported : IsPrefix (longer_history old published_there.slot published_there.program) left.programs = subst (λ (l : List Publish). IsPrefix l left.programs) published_there.extends published_there.reported in
+    let longer = prefix_trans _ left.programs seen reported (prefix_trans left.programs between.programs seen known judgement.taken.longer) in
     let shown : judging_program seen published_there.slot ≡ Some (judgement.program, next.generation) = subst (λ (k : ℕ). judging_program seen k ≡ Some (judgement.program, next.generation)) slot judgement.taken.shown in
     subst (λ (n : ℕ). IsThatOrLater published_there.program n (judgement.program, next.generation)) (sym published_there.place)
     (later old seen published_there.slot published_there.program judgement.program next.generation longer shown)

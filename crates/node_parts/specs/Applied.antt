@@ -45,12 +45,12 @@ pub record IsRefused (old new : BankValue) (holder after : PassValue) (judged : 
   pub shares : after ≡ holder
 
 -- how a judged command ends at a bank: it is applied if that share fits, else refused
-pub record IsEnded (old new : BankValue) (share : ShareValue) (holder after : PassValue) (judged : JudgedValue)
+pub record IsEndedAtBank (old new : BankValue) (share : ShareValue) (holder after : PassValue) (judged : JudgedValue)
     (result : Applied) (bytes : List ℕ) : Type 0 where
   pub applied : fits old share judged ≡ true → IsApplied old new share holder after judged result bytes
   pub refused : fits old share judged ≡ false → IsRefused old new holder after judged result bytes
 
--- how a judged command ends at a bank, by the port's own share of it (`IsEnded`)
+-- how a judged command ends at a bank, by the port's own share of it (`IsEndedAtBank`)
 abbrev pub IsFinished : (old new : BankValue) → (holder after : PassValue) → JudgedValue → Applied → List ℕ → Type 0
 IsFinished old new holder after judged result bytes =
-    IsEnded old new (share_of holder judged.place) holder after judged result bytes
+    IsEndedAtBank old new (share_of holder judged.place) holder after judged result bytes

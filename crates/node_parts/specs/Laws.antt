@@ -31,7 +31,7 @@ IsVerifierCode code = (code ≤ 16) ⊎ (code ≡ 18)
 -- no image. It is 1 to 16 or 18 only if they spell one that nothing justifies for these maps, at the slot of which it
 -- speaks. It is 67 only after 2^32 - 1 publishes. With every other code except 39, which is an instruction's, it has
 -- place 0. Memory was not refused.
-pub record TellsWhy (control : ControlData) (staged : List ℕ) (sizes : Maps) (count : ℕ)
+pub record SaysWhy (control : ControlData) (staged : List ℕ) (sizes : Maps) (count : ℕ)
     (refusal : LoadRefusal) : Type 0 where
   pub control_is_wrong : (control_fault control ≡ Some refusal) ↔ IsControlCode (load_refusal_code refusal)
   pub unspelled : 33 ≤ load_refusal_code refusal → load_refusal_code refusal ≤ 39 → (p : Program) → IsProgram p
@@ -44,10 +44,10 @@ pub record TellsWhy (control : ControlData) (staged : List ℕ) (sizes : Maps) (
   pub no_want : wants_memory refusal ≡ false
 
 -- the refusal of each load says why
-abbrev pub RefusalsTellWhy : Type 0
-RefusalsTellWhy =
+abbrev pub RefusalsSayWhy : Type 0
+RefusalsSayWhy =
     (control : ControlData) (staged : List ℕ) (sizes : Maps) (count : ℕ) (refusal : LoadRefusal)
-    → IsLoad control staged sizes count (Refused refusal) → TellsWhy control staged sizes count refusal
+    → IsLoad control staged sizes count (Refused refusal) → SaysWhy control staged sizes count refusal
 
 -- after a port's own load, the loaded program or a later one judges each command that the loaded slot judges
 abbrev pub LoadsAreTaken : Type 0

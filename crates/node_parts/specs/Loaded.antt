@@ -32,7 +32,7 @@ pub record IsPublished (control : ControlData) (staged : List ℕ) (old new know
   pub load : IsLoad control staged (sizes_of old) (length old) (Published slot program)
   pub extends : new ≡ longer_history old slot program
   pub place : generation ≡ length old
-  pub told : IsPrefix new seen
+  pub reported : IsPrefix new seen
   pub keeps : IsPrefix known seen
   pub learnt : seen ≡ new
 

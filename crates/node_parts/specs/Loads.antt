@@ -8,7 +8,7 @@ use Rattle.bpf.specs.Fault.{image_fault_code, image_fault_of_code, image_fault_s
 use Rattle.bpf.specs.declared.fault.ImageFault.{ImageFault}
 use Rattle.bpf.specs.declared.fault.ImageFault.TheVariants as image_faults
 use Rattle.bpf.specs.Program.{Program, IsProgram, image_bytes}
-use Rattle.bpf.specs.Reading.{Fails, image_reading}
+use Rattle.bpf.specs.Reading.{FailsReading, image_reading}
 use Rattle.bver_form.specs.Codes.{refusal_code, refusal_of_code}
 use Rattle.bver_form.specs.declared.refusal.Refusal.{Refusal}
 use Rattle.bver_form.specs.declared.refusal.Refusal.TheVariants as refusals
@@ -140,7 +140,7 @@ pub record IsUnspelled (bytes : List ℕ) (refusal : LoadRefusal) : Type 0 where
 
 -- the fault that the refusal has of an image is the first in the order of an image's parts, unless memory was refused
 abbrev pub IsFirstFault : List ℕ → LoadRefusal → Type 0
-IsFirstFault bytes refusal = (fault : ImageFault) → refusal ≡ Image fault → Fails fault (image_reading bytes)
+IsFirstFault bytes refusal = (fault : ImageFault) → refusal ≡ Image fault → FailsReading fault (image_reading bytes)
 
 -- The bytes spell a program, which the verifier refused for these maps. The refusal says why, and nothing justifies the
 -- program.

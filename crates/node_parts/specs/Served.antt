@@ -11,7 +11,7 @@ use Rattle.node_parts.specs.declared.served.Served.{Served}
 use Rattle.node_parts.specs.declared.served.Served.TheVariants.{Stopped, Unread, Done, Window}
 use Rattle.node_parts.specs.Passes.{PassValue, with_staging}
 use Rattle.node_parts.specs.Steps.{IsStopped, IsUnread, IsJudgement}
-use Rattle.node_parts.specs.Applied.{share_of, IsApplied, IsEnded}
+use Rattle.node_parts.specs.Applied.{share_of, IsApplied, IsEndedAtBank}
 use Rattle.node_parts.specs.Stagings.{IsStaged}
 use Rattle.node_parts.specs.Loaded.{IsLoadEnd}
 
@@ -40,12 +40,12 @@ pub record IsDone (Ends : Ending) (old new : PartsValue) (holder after : PassVal
   pub between : PassValue
   pub number : ℕ
   pub before : BankValue
-  pub behind : BankValue
+  pub following : BankValue
   pub judgement : IsJudgement holder between p judged
   pub place : judged.place ≡ Bank number
   pub bank : slice_get old.banks number ≡ Some before
-  pub node : new ≡ parts (slice_set old.banks number behind) old.programs
-  pub ended : Ends before behind (share_of between judged.place) between after judged result bytes
+  pub node : new ≡ parts (slice_set old.banks number following) old.programs
+  pub ended : Ends before following (share_of between judged.place) between after judged result bytes
 
 -- the command ended at the port's own staging, and nothing else of the port changed
 pub record IsStagedAt (holder after : PassValue) (judged : JudgedValue) (result : Status)
@@ -81,7 +81,7 @@ IsServedBy Ends (Window result) p old new h after reply = IsWindowed old new h a
 
 -- what becomes of a packet, whatever the node and the port
 abbrev pub IsServed : Served → Cargo → (old new : PartsValue) → (holder after : PassValue) → List ℕ → Type 0
-IsServed = IsServedBy IsEnded
+IsServed = IsServedBy IsEndedAtBank
 
 -- what becomes of a packet if banks and port are paired: each command that is judged is applied
 abbrev pub IsAnswered : Served → Cargo → (old new : PartsValue) → (holder after : PassValue) → List ℕ → Type 0

@@ -23,7 +23,7 @@ use Rattle.node_parts.specs.declared.stop.Stop.{Stop}
 use Rattle.node_parts.specs.declared.stop.Stop.TheVariants.{Discarded as NoCommand, Answered as Fault}
 
 -- the packet is a command, and no check of its header holds
-pub record IsAllowed (p : Cargo) (w : WindowsValue) : Type 0 where
+pub record IsAllowedCommand (p : Cargo) (w : WindowsValue) : Type 0 where
   pub command : discard_of p.bytes ≡ None
   pub allowed : header_line (command_of p) w ≡ None
 
@@ -44,7 +44,7 @@ pub record IsAdmission (admitted : AdmittedValue) (p : Cargo) (w : WindowsValue)
 
 -- nothing judged the command of the packet: the reply is a general error
 pub record IsUnread (p : Cargo) (w : WindowsValue) (reply : List ℕ) : Type 0 where
-  pub allowed : IsAllowed p w
+  pub allowed : IsAllowedCommand p w
   pub error : reply ≡ reply_of (command_of p) GeneralError []
 
 -- the place is a bank below n
@@ -58,8 +58,8 @@ IsVerdictOn program port calls c verdict =
     RunsWithin program.program (header c.front c.tail) port calls verdict
 
 -- the same of the command of a packet
-abbrev pub IsVerdict : AcceptedValue → ℕ → List Call → Cargo → ℕ → Type 0
-IsVerdict program port calls p verdict = IsVerdictOn program port calls (command_of p) verdict
+abbrev pub IsPacketVerdict : AcceptedValue → ℕ → List Call → Cargo → ℕ → Type 0
+IsPacketVerdict program port calls p verdict = IsVerdictOn program port calls (command_of p) verdict
 
 -- the program had one run on the command's header, which asked what the context's port asked more, and
 -- ended with that verdict
@@ -72,7 +72,7 @@ pub record HasRun (program : AcceptedValue) (old new : RunContextValue) (c : Com
 pub record IsJudgedBy (program : AcceptedValue) (generation port : ℕ) (calls : List Call) (admitted : AdmittedValue)
     (j : JudgedValue) : Type 0 where
   pub judged : j ≡ judgement admitted port generation j.verdict
-  pub verdict : IsVerdict program port calls admitted.packet j.verdict
+  pub verdict : IsPacketVerdict program port calls admitted.packet j.verdict
 
 -- the admitted command was judged in one run, and the context's port asked what that run asked
 pub record IsJudgedOnce (program : AcceptedValue) (generation : ℕ) (old new : RunContextValue)
@@ -89,7 +89,7 @@ pub record IsJudgedFor (program : AcceptedValue) (generation port : ℕ) (w : Wi
   pub placed : IsPlacedBy w p j.place
   pub port_of : j.port ≡ port
   pub generation_of : j.generation ≡ generation
-  pub verdict : IsVerdict program port calls p j.verdict
+  pub verdict : IsPacketVerdict program port calls p j.verdict
 
 -- A list of publishes begins with what was known. In it the program of that generation is published in the slot of the
 -- command's place, and it is justified.

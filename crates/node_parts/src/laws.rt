@@ -3,7 +3,7 @@
 ghost use Rattle.std.specs.Prelude.{◌≡◌};
 ghost use Rattle.node_parts.specs.Pairs.{MadeArePaired, PairedCommandsFit, OwnStaysPaired, OthersStayPaired};
 ghost use Rattle.node_parts.specs.Keeping.{AnsweredAreServed, AppliedSharesAgree, LeavesAllPaired};
-ghost use Rattle.node_parts.specs.Laws.{LoadsAreTaken, RefusalsTellWhy};
+ghost use Rattle.node_parts.specs.Laws.{LoadsAreTaken, RefusalsSayWhy};
 
 use bank::extents_stay;
 use bver_form::first_faults;
@@ -51,8 +51,8 @@ pub fn loads_are_taken()
 }
 
 /// A law and no work: what the refusal of a load says, by its code and its slot.
-pub fn refusals_tell_why()
-    ensures { RefusalsTellWhy }
+pub fn refusals_say_why()
+    ensures { RefusalsSayWhy }
 {
     first_faults();
 }

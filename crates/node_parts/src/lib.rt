@@ -29,7 +29,7 @@ pub use config::{BankConfig, NodeConfig};
 pub use faults::NodeFault;
 pub use laws::{
     loads_are_taken, made_are_paired, packets_keep_pairs, paired_commands_fit, pairs_stay,
-    refusals_tell_why, shares_agree,
+    refusals_say_why, shares_agree,
 };
 pub use loads::{load, prepare};
 pub use refusal::LoadRefusal;

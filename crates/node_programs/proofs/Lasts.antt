@@ -5,7 +5,7 @@ use Rattle.std.proofs.lemmas.List.{append-nil}
 use Rattle.bver.specs.Justified.{AcceptedValue}
 use Rattle.node_programs.specs.declared.publishes.Publish.{Publish}
 use Rattle.node_programs.specs.Published.{judging_from}
-use Rattle.node_programs.specs.Laws.{AreOthers, IsLast, IsSetByNext, IsLastFor, IsBelow}
+use Rattle.node_programs.specs.Laws.{AreOthers, IsLast, IsSetByNext, IsLastFor, IsGenerationBelow}
 use Rattle.node_programs.proofs.Judging.{published_snoc}
 
 pub set_by_next : IsSetByNext
@@ -58,7 +58,7 @@ last_for (f ∷ ps) slot program generation is =
     let first : IsLast (f ∷ []) slot f.program 0 = record { before = []; last = f; after = []; parts = refl; count = refl; program = refl; slot = inl refl; others = tt } in
     subst (λ (x : AcceptedValue × ℕ). IsLast (f ∷ ps) slot x.0 x.1) same (last_from (f ∷ []) ps slot (f.program, 0) 1 refl first)
 
-pub below : IsBelow
+pub below : IsGenerationBelow
 below history slot program generation is =
     let last = last_for history slot program generation is in
     omega (arith, last.count, ap (λ (w : List Publish). length w) last.parts, length-append last.before (last.last ∷ last.after))

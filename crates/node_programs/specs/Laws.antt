@@ -35,8 +35,8 @@ IsLastFor =
     ≡ Some (program, generation) → IsLast history slot program generation
 
 -- its generation is a place in the history
-abbrev pub IsBelow : Type 0
-IsBelow =
+abbrev pub IsGenerationBelow : Type 0
+IsGenerationBelow =
     (history : List Publish) (slot : ℕ) (program : AcceptedValue) (generation : ℕ) → judging_program history slot
     ≡ Some (program, generation) → generation < length history
 

@@ -1,6 +1,6 @@
 //! Laws of what was published.
 
-ghost use Rattle.node_programs.specs.Laws.{IsSetByNext, IsLastFor, IsBelow, IsKeptOrLater};
+ghost use Rattle.node_programs.specs.Laws.{IsSetByNext, IsLastFor, IsGenerationBelow, IsKeptOrLater};
 
 /// What a list of programs says of a slot. One publish more sets it only for its own slot. The program is the last for
 /// the slot, or the factory program if there is none; its generation is its place. After a publish for the slot that
@@ -8,6 +8,6 @@ ghost use Rattle.node_programs.specs.Laws.{IsSetByNext, IsLastFor, IsBelow, IsKe
 pub fn published_programs()
     ensures next { IsSetByNext }
     ensures last { IsLastFor }
-    ensures below { IsBelow }
+    ensures below { IsGenerationBelow }
     ensures later { IsKeptOrLater }
 {}

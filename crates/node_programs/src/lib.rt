@@ -2,7 +2,7 @@
 //! program are before it is published.
 //!
 //! A list of [`Publish`]es says which program judges at each of four slots: the last that was published for it, and the
-//! factory program if there is none. [`Shown`] is what a slot has of that, and [`published_programs`] says how the list
+//! factory program if there is none. [`ProgramVersion`] is what a slot has of that, and [`published_programs`] says how the list
 //! and its slots go on. A [`ProgramStore`] is what holds such a list. Nothing here waits: what threads share of a
 //! node's programs is in `publish`.
 #![tactic(auto)]
@@ -18,6 +18,6 @@ pub use faults::PublishFault;
 pub use laws::published_programs;
 pub use publishes::Publish;
 pub use rmap::LAST_SLOT;
-pub use shown::Shown;
+pub use shown::ProgramVersion;
 pub use staging::{STAGING_BYTES, Staging};
 pub use store::ProgramStore;

@@ -11,12 +11,12 @@ use std::sync::Arc;
 
 /// The program of a slot, with its generation: its place in the list of what was published.
 #[derive(Drop)]
-pub struct Shown {
+pub struct ProgramVersion {
     program: Arc<Accepted>,
     generation: u32,
 }
 
-impl Model for Shown {
+impl Model for ProgramVersion {
     ghost use Rattle.std.specs.Prelude.{ℕ};
     ghost use Rattle.std.specs.Arc.{arc_value};
     ghost use Rattle.bver.specs.Justified.{AcceptedValue};
@@ -26,12 +26,12 @@ impl Model for Shown {
     ghost view = { λ s. (arc_value s.program, s.generation) };
 }
 
-impl Shown {
+impl ProgramVersion {
     /// That program, with that generation.
-    pub fn new(program: Arc<Accepted>, generation: u32) -> Shown
+    pub fn new(program: Arc<Accepted>, generation: u32) -> ProgramVersion
         ensures { result ≡ (arc_value program, generation) }
     {
-        Shown {
+        ProgramVersion {
             program,
             generation,
         }
@@ -42,10 +42,10 @@ impl Shown {
     /// # Errors
     ///
     /// An error if memory is refused.
-    pub fn first(program: &Arc<Accepted>) -> Result<Shown, AllocError>
+    pub fn first(program: &Arc<Accepted>) -> Result<ProgramVersion, AllocError>
         ensures { IfOk result (λ shown. shown ≡ (arc_value program.now, 0)) }
     {
-        Ok(Shown {
+        Ok(ProgramVersion {
             program: Arc::try_clone(program)?,
             generation: 0,
         })
@@ -56,10 +56,10 @@ impl Shown {
     /// # Errors
     ///
     /// An error if memory is refused.
-    pub fn another(&self) -> Result<Shown, AllocError>
+    pub fn another(&self) -> Result<ProgramVersion, AllocError>
         ensures { IfOk result (λ shown. shown ≡ self.now) }
     {
-        Ok(Shown {
+        Ok(ProgramVersion {
             program: Arc::try_clone(&self.program)?,
             generation: self.generation,
         })

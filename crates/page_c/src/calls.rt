@@ -1,12 +1,12 @@
 //! What the host calls.
 
 ghost use Rattle.std.specs.Prelude.{◌≡◌, ◌≤◌, ◌<◌, IfOk, MatchOption, length};
-ghost use Rattle.page_c.specs.Answers.{Answers, IsAnswered, with_bytes};
+ghost use Rattle.page_c.specs.AnswersHost.{AnswersHost, IsAnswerPut, with_answer_bytes};
 ghost use Rattle.page_c.specs.declared.calls.TheConstants.{NO_WORDS};
 ghost use Rattle.page_format.specs.Given.{IsNotGiven};
 
 use doing::{STANDARD_INPUT, do_words};
-use page_format::{Given, files_since, given_of, told_of};
+use page_format::{Given, files_since, given_of, reported_of};
 use std::alloc::{AllocError, Global};
 
 /// Memory was refused.
@@ -19,7 +19,7 @@ const NO_WORDS: u64 = 1;
 /// files.
 fn answer(alloc: Global, given: &[u8]) -> Result<Option<Vec<u8>>, AllocError>
     ensures { IfOk result (λ found. MatchOption found (IsNotGiven given.now)
-        (λ bytes. Answers given.now bytes.items)) }
+        (λ bytes. AnswersHost given.now bytes.items)) }
 {
     let Some(given) = given_of(alloc, STANDARD_INPUT, given)? else {
         return Ok(None);
@@ -29,11 +29,11 @@ fn answer(alloc: Global, given: &[u8]) -> Result<Option<Vec<u8>>, AllocError>
     let left = do_words(alloc, words.as_slice(), folder)?;
     let written = files_since(&left.folder, count);
     let done = &left.done;
-    let bytes = told_of(
+    let bytes = reported_of(
         alloc,
         done.status,
         done.out.as_slice(),
-        done.told.as_bytes(),
+        done.reported.as_bytes(),
         written,
     )?;
     Ok(Some(bytes))
@@ -43,7 +43,7 @@ fn answer(alloc: Global, given: &[u8]) -> Result<Option<Vec<u8>>, AllocError>
 #[tactic(auto, using(crate::proofs::Answering::bytes_put))]
 fn put(room: &mut [u8], bytes: &[u8]) -> u64
     ensures counted { result ≡ length bytes.now }
-    ensures put { room.new ≡ with_bytes room.old bytes.now }
+    ensures put { room.new ≡ with_answer_bytes room.old bytes.now }
 {
     if bytes.len() <= room.len() {
         let (own, _) = room.split_at_mut(bytes.len());
@@ -57,13 +57,13 @@ fn put(room: &mut [u8], bytes: &[u8]) -> u64
 /// was refused, and 1 if the bytes are no words and files. `page_format` says how words, files and what came of them
 /// are bytes.
 #[unsafe(no_mangle)]
-pub extern "C" fn sandbar_perform(alloc: Global, given: &[u8], told: &mut [u8]) -> u64
-    ensures nothing { result ≤ NO_WORDS → told.new ≡ told.old }
+pub extern "C" fn sandbar_perform(alloc: Global, given: &[u8], reported: &mut [u8]) -> u64
+    ensures nothing { result ≤ NO_WORDS → reported.new ≡ reported.old }
     ensures refused { result ≡ NO_WORDS → IsNotGiven given.now }
-    ensures answered { NO_WORDS < result → IsAnswered given.now told.old told.new result }
+    ensures answered { NO_WORDS < result → IsAnswerPut given.now reported.old reported.new result }
 {
     match answer(alloc, given) {
-        Ok(Some(bytes)) => put(told, bytes.as_slice()),
+        Ok(Some(bytes)) => put(reported, bytes.as_slice()),
         Ok(None) => NO_WORDS,
         Err(_) => NO_MEMORY,
     }

@@ -5,9 +5,9 @@ use Rattle.std.specs.Int.{w32, from_le_bytes}
 use Rattle.std.proofs.lemmas.Nat.{from_le_bytes-to_le_bytes_4}
 use Rattle.std.proofs.lemmas.List.{append_assoc, drop_at, length-append, reverse-reverse, take_at}
 use Rattle.folders.specs.Folders.{FolderValue}
-use Rattle.page_format.specs.Given.{IsGiven}
-use Rattle.page_format.specs.Told.{IsTold}
-use Rattle.page_format.specs.Pieces.{AreFiles, AreShort, AreWords, IsShort, files_bytes, number_bytes, piece_bytes, words_bytes}
+use Rattle.page_format.specs.Given.{IsHostGiven}
+use Rattle.page_format.specs.Written.{IsOutcomeWritten}
+use Rattle.page_format.specs.Pieces.{AreFiles, AreShort, AreTextWords, IsShortPiece, files_bytes, number_bytes, piece_bytes, words_bytes}
 
 -- the number at the beginning, and what comes after it
 pub number_cut : (number other : ℕ) (rest more : List ℕ) → number < 2 ^ 32 → other < 2 ^ 32
@@ -28,7 +28,7 @@ bytes_cut piece other rest more long same = (
 )
 
 -- the piece at the beginning, and what comes after it
-pub piece_cut : (piece other rest more : List ℕ) → IsShort piece → IsShort other → piece_bytes piece ++ rest ≡ piece_bytes other ++ more
+pub piece_cut : (piece other rest more : List ℕ) → IsShortPiece piece → IsShortPiece other → piece_bytes piece ++ rest ≡ piece_bytes other ++ more
     → (piece ≡ other) × (rest ≡ more)
 piece_cut piece other rest more short small same =
     let cut : (length piece ≡ length other) × (piece ++ rest ≡ other ++ more) =
@@ -51,7 +51,7 @@ piece_is_some piece rest same =
     absurd (omega (arith, none, piece_long piece rest))
 
 -- words at the beginning, if there are as many, and what comes after them
-pub words_cut : (words others : List (List ℕ)) (rest more : List ℕ) → AreWords words → AreWords others → length words ≡ length others
+pub words_cut : (words others : List (List ℕ)) (rest more : List ℕ) → AreTextWords words → AreTextWords others → length words ≡ length others
     → words_bytes words ++ rest ≡ words_bytes others ++ more
     → (words ≡ others) × (rest ≡ more)
 words_cut [] [] rest more are is long same = (refl, same)
@@ -65,7 +65,7 @@ words_cut (word ∷ words) (other ∷ others) rest more are is long same =
     (ap₂ (λ (w : List ℕ) (ws : List (List ℕ)). w ∷ ws) first.0 later.0, later.1)
 
 -- a file at the beginning, and what comes after it
-pub file_cut : (name other content bytes rest more : List ℕ) → IsShort name → IsShort other → IsShort content → IsShort bytes
+pub file_cut : (name other content bytes rest more : List ℕ) → IsShortPiece name → IsShortPiece other → IsShortPiece content → IsShortPiece bytes
     → piece_bytes name ++ (piece_bytes content ++ rest) ≡ piece_bytes other ++ (piece_bytes bytes ++ more)
     → (name ≡ other) × (content ≡ bytes) × (rest ≡ more)
 file_cut name other content bytes rest more named called short small same =
@@ -89,8 +89,8 @@ pub files_short : (files : FolderValue) → AreFiles files → AreShort files
 files_short [] are = tt
 files_short (file ∷ files) are = (are.0.short, are.1, files_short files are.2)
 
-pub given_once : (bytes : List ℕ) (words others : List (List ℕ)) (folder another : FolderValue) → IsGiven words folder bytes
-    → IsGiven others another bytes
+pub given_once : (bytes : List ℕ) (words others : List (List ℕ)) (folder another : FolderValue) → IsHostGiven words folder bytes
+    → IsHostGiven others another bytes
     → (words ≡ others) × (folder ≡ another)
 given_once bytes words others folder another one two =
     let counts = number_cut (length words) (length others) (words_bytes words ++ files_bytes (reverse folder)) (words_bytes others ++ files_bytes (reverse another))
@@ -100,12 +100,12 @@ given_once bytes words others folder another one two =
     files_cut (reverse folder) (reverse another) (files_short _ one.files_are) (files_short _ two.files_are) cut.1 in
     (cut.0, sym (reverse-reverse folder) ∙ ap (λ (all : FolderValue). reverse all) files ∙ reverse-reverse another)
 
-pub told_once : (bytes : List ℕ) (status other : ℕ) (out another told text : List ℕ) (files more : FolderValue)
-    → IsTold status out told files bytes
-    → IsTold other another text more bytes
-    → (status ≡ other) × (out ≡ another) × (told ≡ text) × (files ≡ more)
-told_once bytes status other out another told text files more one two =
-    let first = number_cut status other (piece_bytes out ++ (piece_bytes told ++ files_bytes files)) (piece_bytes another ++ (piece_bytes text ++ files_bytes more))
+pub reported_once : (bytes : List ℕ) (status other : ℕ) (out another reported text : List ℕ) (files more : FolderValue)
+    → IsOutcomeWritten status out reported files bytes
+    → IsOutcomeWritten other another text more bytes
+    → (status ≡ other) × (out ≡ another) × (reported ≡ text) × (files ≡ more)
+reported_once bytes status other out another reported text files more one two =
+    let first = number_cut status other (piece_bytes out ++ (piece_bytes reported ++ files_bytes files)) (piece_bytes another ++ (piece_bytes text ++ files_bytes more))
     one.status_fits two.status_fits (sym one.is ∙ two.is) in
-    let cut = file_cut out another told text (files_bytes files) (files_bytes more) one.out_short two.out_short one.told_short two.told_short first.1 in
+    let cut = file_cut out another reported text (files_bytes files) (files_bytes more) one.out_short two.out_short one.reported_short two.reported_short first.1 in
     (first.0, cut.0, cut.1, files_cut files more one.files_short two.files_short cut.2)

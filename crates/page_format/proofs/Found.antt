@@ -7,9 +7,9 @@ use Rattle.std.specs.Str.{IsUtf8}
 use Rattle.std.proofs.lemmas.Nat.{le_bytes_4}
 use Rattle.std.proofs.lemmas.List.{append_assoc, append-nil, length_push, map-append, reverse-append}
 use Rattle.folders.specs.Folders.{FolderValue}
-use Rattle.page_format.specs.Given.{IsGiven}
-use Rattle.page_format.specs.Reading.{BeginsFile, BeginsNumber, BeginsPiece, BeginsWord, BeginsWords, IsFolder}
-use Rattle.page_format.specs.Pieces.{AreFiles, AreWords, IsShort, IsWord, files_bytes, number_bytes, piece_bytes, words_bytes, words_value}
+use Rattle.page_format.specs.Given.{IsHostGiven}
+use Rattle.page_format.specs.Reading.{BeginsFile, BeginsNumber, BeginsPiece, BeginsWord, BeginsWords, IsFolderOf}
+use Rattle.page_format.specs.Pieces.{AreFiles, AreTextWords, IsShortPiece, IsWordPiece, files_bytes, number_bytes, piece_bytes, words_bytes, words_value}
 
 each_below : (a b c d : ℕ) (tail : List ℕ) → ((i : ℕ) → get_or (a ∷ b ∷ c ∷ d ∷ tail) i 0 < 256) → (i : ℕ) → get_or (a ∷ b ∷ c ∷ d ∷ []) i 0 < 256
 each_below a b c d tail each zero = each 0
@@ -57,7 +57,7 @@ words_snoc [] word = append-nil (piece_bytes word)
 words_snoc (first ∷ words) word = ap (λ (r : List ℕ). piece_bytes first ++ r) (words_snoc words word)
     ∙ sym (append_assoc (piece_bytes first) (words_bytes words) (piece_bytes word))
 
-are_words_snoc : (words : List (List ℕ)) (word : List ℕ) → AreWords words → IsWord word → AreWords (words ++ (word ∷ []))
+are_words_snoc : (words : List (List ℕ)) (word : List ℕ) → AreTextWords words → IsWordPiece word → AreTextWords (words ++ (word ∷ []))
 are_words_snoc [] word are is = (is, tt)
 are_words_snoc (first ∷ words) word are is = (are.0, are_words_snoc words word are.1 is)
 
@@ -108,7 +108,7 @@ files_snoc (file ∷ files) name content =
     ∙ ap (λ (r : List ℕ). piece_bytes file.0 ++ r) (sym (append_assoc (piece_bytes file.1) (files_bytes files) end))
     ∙ sym (append_assoc (piece_bytes file.0) (piece_bytes file.1 ++ files_bytes files) end)
 
-are_files_snoc : (files : FolderValue) (name content : List ℕ) → AreFiles files → IsWord name → IsShort content → AreFiles (files ++ ((name, content) ∷ []))
+are_files_snoc : (files : FolderValue) (name content : List ℕ) → AreFiles files → IsWordPiece name → IsShortPiece content → AreFiles (files ++ ((name, content) ∷ []))
 are_files_snoc [] name content are is short = (is, short, tt)
 are_files_snoc (file ∷ files) name content are is short = (are.0, are.1, are_files_snoc files name content are.2 is short)
 
@@ -130,7 +130,7 @@ one_read bytes rest name content after old new read begins put =
           ∙ ap (λ (all : FolderValue). files_bytes all ++ after) (sym turned);
     }
 
-pub all_read : (bytes rest : List ℕ) (folder : FolderValue) → AreRead bytes folder rest → rest ≡ [] → IsFolder folder bytes
+pub all_read : (bytes rest : List ℕ) (folder : FolderValue) → AreRead bytes folder rest → rest ≡ [] → IsFolderOf folder bytes
 all_read bytes rest folder read empty = record {
   files_are = read.files_are;
   is = read.is ∙ ap (λ (r : List ℕ). files_bytes (reverse folder) ++ r) empty ∙ append-nil (files_bytes (reverse folder));
@@ -138,8 +138,8 @@ all_read bytes rest folder read empty = record {
 
 -- words and a folder after their number
 pub given_found : (bytes rest after : List ℕ) (count : ℕ) (words : List (List ℕ)) (folder : FolderValue) → BeginsNumber count rest bytes
-    → BeginsWords count words after rest → IsFolder folder after
-    → IsGiven words folder bytes
+    → BeginsWords count words after rest → IsFolderOf folder after
+    → IsHostGiven words folder bytes
 given_found bytes rest after count words folder number begins end = record {
   counted = subst (λ (n : ℕ). n < 2 ^ 32) (sym begins.counted) number.fits;
   words_are = begins.words_are;

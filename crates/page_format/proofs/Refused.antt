@@ -6,7 +6,7 @@ use Rattle.std.proofs.lemmas.List.{append_assoc, length-append}
 use Rattle.folders.specs.Folders.{FolderValue}
 use Rattle.page_format.specs.Given.{IsNotGiven}
 use Rattle.page_format.specs.Reading.{BeginsNoFile, BeginsNoPiece, BeginsNoWord, BeginsNoWords, BeginsNumber, BeginsPiece, BeginsWord, BeginsWords, IsNoFolder}
-use Rattle.page_format.specs.Pieces.{AreFiles, AreShort, AreWords, files_bytes, number_bytes, piece_bytes, words_bytes}
+use Rattle.page_format.specs.Pieces.{AreFiles, AreShort, AreTextWords, files_bytes, number_bytes, piece_bytes, words_bytes}
 use Rattle.page_format.proofs.Cutting.{file_cut, files_short, number_cut, piece_cut, piece_is_some, piece_long, words_cut}
 use Rattle.page_format.proofs.Found.{AreRead}
 
@@ -43,7 +43,7 @@ no_text_no_word bytes piece rest begins no_text = record {
 }
 
 -- fewer words than others that the same bytes begin with, and no word after them
-words_stop : (words others : List (List ℕ)) (rest more : List ℕ) → AreWords words → AreWords others → length words < length others
+words_stop : (words others : List (List ℕ)) (rest more : List ℕ) → AreTextWords words → AreTextWords others → length words < length others
     → BeginsNoWord rest
     → words_bytes words ++ rest ≡ words_bytes others ++ more
     → ⊥

@@ -3,10 +3,10 @@ use Rattle.std.proofs.Common.{◌≡◌, ◌++◌, ◌-◌, ◌<◌, ◌^◌, �
 use Rattle.std.specs.Prelude.{is_ok, if◌then◌else◌}
 use Rattle.std.proofs.lemmas.List.{append_assoc, append-nil, length-map, take-map}
 use Rattle.folders.specs.Folders.{FolderValue, sheets_value}
-use Rattle.folders.specs.Sheets.{pair_of}
+use Rattle.folders.specs.Sheets.{sheet_pair_of}
 use Rattle.folders.specs.declared.folder.Sheet.{Sheet}
-use Rattle.page_format.specs.Pieces.{AreShort, IsShort, files_bytes, number_bytes, piece_bytes}
-use Rattle.page_format.specs.Told.{IsTold, files_since}
+use Rattle.page_format.specs.Pieces.{AreShort, IsShortPiece, files_bytes, number_bytes, piece_bytes}
+use Rattle.page_format.specs.Written.{IsOutcomeWritten, files_since}
 
 -- a piece is written after what was there: its length, and then its bytes
 pub piece_written : {T E : Type 0} (result : Result T E) (old mid new piece : List ℕ) → mid ≡ old ++ number_bytes (length piece)
@@ -24,7 +24,7 @@ pub none_written : (old : List ℕ) (files : FolderValue) → AreWritten old fil
 none_written old files = record { short = λ are. are; is = refl }
 
 pub one_written : (old now named own name content : List ℕ) (files left : FolderValue) → AreWritten old files now ((name, content) ∷ left)
-    → IsShort name → IsShort content
+    → IsShortPiece name → IsShortPiece content
     → named ≡ now ++ piece_bytes name → own ≡ named ++ piece_bytes content
     → AreWritten old files own left
 one_written old now named own name content files left written called short first second = record {
@@ -43,28 +43,28 @@ all_written old now files left written empty =
     sym (append-nil now) ∙ ap (λ (f : FolderValue). now ++ files_bytes f) (sym empty) ∙ written.is
 
 -- the whole
-pub told_written : (status : ℕ) (first second third bytes out told : List ℕ) (files : FolderValue) → status < 2 ^ 32
+pub reported_written : (status : ℕ) (first second third bytes out reported : List ℕ) (files : FolderValue) → status < 2 ^ 32
     → first ≡ number_bytes status
-    → IsShort out → second ≡ first ++ piece_bytes out
-    → IsShort told → third ≡ second ++ piece_bytes told
+    → IsShortPiece out → second ≡ first ++ piece_bytes out
+    → IsShortPiece reported → third ≡ second ++ piece_bytes reported
     → AreShort files → bytes ≡ third ++ files_bytes files
-    → IsTold status out told files bytes
-told_written status first second third bytes out told files fits one short two small three are four = record {
+    → IsOutcomeWritten status out reported files bytes
+reported_written status first second third bytes out reported files fits one short two small three are four = record {
   status_fits = fits;
   out_short = short;
-  told_short = small;
+  reported_short = small;
   files_short = are;
-  is = four ∙ ap (λ (r : List ℕ). r ++ files_bytes files) (three ∙ ap (λ (r : List ℕ). r ++ piece_bytes told) (two ∙ ap (λ (r : List ℕ). r ++ piece_bytes out) one))
-      ∙ append_assoc (number_bytes status ++ piece_bytes out) (piece_bytes told) (files_bytes files)
-      ∙ append_assoc (number_bytes status) (piece_bytes out) (piece_bytes told ++ files_bytes files);
+  is = four ∙ ap (λ (r : List ℕ). r ++ files_bytes files) (three ∙ ap (λ (r : List ℕ). r ++ piece_bytes reported) (two ∙ ap (λ (r : List ℕ). r ++ piece_bytes out) one))
+      ∙ append_assoc (number_bytes status ++ piece_bytes out) (piece_bytes reported) (files_bytes files)
+      ∙ append_assoc (number_bytes status) (piece_bytes out) (piece_bytes reported ++ files_bytes files);
 }
 
 -- the first sheets are the first files
 pub sheets_taken : (count : ℕ) (sheets : List Sheet) (folder : FolderValue) → sheets_value sheets ≡ folder → sheets_value (take count sheets) ≡ take count folder
-sheets_taken count sheets folder are = sym (take-map pair_of count sheets) ∙ ap (λ (files : FolderValue). take count files) are
+sheets_taken count sheets folder are = sym (take-map sheet_pair_of count sheets) ∙ ap (λ (files : FolderValue). take count files) are
 
 pub sheets_since : (count n : ℕ) (sheets : List Sheet) (folder : FolderValue) → sheets_value sheets ≡ folder → n ≡ length sheets - count
     → sheets_value (take n sheets) ≡ files_since count folder
 sheets_since count n sheets folder are is =
-    let long : length sheets ≡ length folder = sym (length-map sheets pair_of) ∙ ap (λ (files : FolderValue). length files) are in
+    let long : length sheets ≡ length folder = sym (length-map sheets sheet_pair_of) ∙ ap (λ (files : FolderValue). length files) are in
     sheets_taken n sheets folder are ∙ ap (λ (k : ℕ). take k folder) (is ∙ ap (λ (k : ℕ). k - count) long)

@@ -1,4 +1,4 @@
 pub mod Given
 pub mod Pieces
 pub mod Reading
-pub mod Told
+pub mod Written

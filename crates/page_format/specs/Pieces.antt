@@ -10,8 +10,8 @@ abbrev pub number_bytes : ℕ → List ℕ
 number_bytes number = to_le_bytes w32 number
 
 -- four bytes hold the length of the piece
-abbrev pub IsShort : List ℕ → Type 0
-IsShort piece = length piece < 2 ^ 32
+abbrev pub IsShortPiece : List ℕ → Type 0
+IsShortPiece piece = length piece < 2 ^ 32
 
 -- a piece: its length, and then its bytes
 abbrev pub piece_bytes : List ℕ → List ℕ
@@ -28,24 +28,24 @@ files_bytes [] = []
 files_bytes (file ∷ files) = piece_bytes file.0 ++ (piece_bytes file.1 ++ files_bytes files)
 
 -- a word or a name: UTF-8, and short
-pub record IsWord (word : List ℕ) : Type 0 where
-  pub short : IsShort word
+pub record IsWordPiece (word : List ℕ) : Type 0 where
+  pub short : IsShortPiece word
   pub text : IsUtf8 word
 
 -- each is a word
-abbrev pub AreWords : List (List ℕ) → Type 0
-AreWords [] = Unit {0}
-AreWords (word ∷ words) = IsWord word × AreWords words
+abbrev pub AreTextWords : List (List ℕ) → Type 0
+AreTextWords [] = Unit {0}
+AreTextWords (word ∷ words) = IsWordPiece word × AreTextWords words
 
 -- each file has a name that is a word, and short bytes
 abbrev pub AreFiles : FolderValue → Type 0
 AreFiles [] = Unit {0}
-AreFiles (file ∷ files) = IsWord file.0 × IsShort file.1 × AreFiles files
+AreFiles (file ∷ files) = IsWordPiece file.0 × IsShortPiece file.1 × AreFiles files
 
 -- each file has a short name and short bytes
 abbrev pub AreShort : FolderValue → Type 0
 AreShort [] = Unit {0}
-AreShort (file ∷ files) = IsShort file.0 × IsShort file.1 × AreShort files
+AreShort (file ∷ files) = IsShortPiece file.0 × IsShortPiece file.1 × AreShort files
 
 -- the words that references lead to
 abbrev pub words_value : List (Bor (List ℕ)) → List (List ℕ)

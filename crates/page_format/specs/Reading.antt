@@ -1,7 +1,7 @@
 -- What bytes begin with.
 use Rattle.std.specs.Prelude.{◌≡◌, ◌++◌, ◌<◌, ◌^◌, ℕ, List, length, reverse}
 use Rattle.folders.specs.Folders.{FolderValue}
-use Rattle.page_format.specs.Pieces.{AreFiles, AreWords, IsShort, IsWord, files_bytes, number_bytes, piece_bytes, words_bytes}
+use Rattle.page_format.specs.Pieces.{AreFiles, AreTextWords, IsShortPiece, IsWordPiece, files_bytes, number_bytes, piece_bytes, words_bytes}
 
 -- they begin with this number
 pub record BeginsNumber (number : ℕ) (rest bytes : List ℕ) : Type 0 where
@@ -10,7 +10,7 @@ pub record BeginsNumber (number : ℕ) (rest bytes : List ℕ) : Type 0 where
 
 -- they begin with this piece
 pub record BeginsPiece (piece rest bytes : List ℕ) : Type 0 where
-  pub short : IsShort piece
+  pub short : IsShortPiece piece
   pub is : bytes ≡ piece_bytes piece ++ rest
 
 -- they begin with no piece
@@ -19,7 +19,7 @@ pub record BeginsNoPiece (bytes : List ℕ) : Type 0 where
 
 -- they begin with this word
 pub record BeginsWord (word rest bytes : List ℕ) : Type 0 where
-  pub word_is : IsWord word
+  pub word_is : IsWordPiece word
   pub is : bytes ≡ piece_bytes word ++ rest
 
 -- they begin with no word
@@ -29,7 +29,7 @@ pub record BeginsNoWord (bytes : List ℕ) : Type 0 where
 -- they begin with these words, which are this many
 pub record BeginsWords (count : ℕ) (words : List (List ℕ)) (rest bytes : List ℕ) : Type 0 where
   pub counted : length words ≡ count
-  pub words_are : AreWords words
+  pub words_are : AreTextWords words
   pub is : bytes ≡ words_bytes words ++ rest
 
 -- they do not begin with this many words
@@ -38,8 +38,8 @@ pub record BeginsNoWords (count : ℕ) (bytes : List ℕ) : Type 0 where
 
 -- they begin with a file of this name and these bytes
 pub record BeginsFile (name content rest bytes : List ℕ) : Type 0 where
-  pub name_is : IsWord name
-  pub short : IsShort content
+  pub name_is : IsWordPiece name
+  pub short : IsShortPiece content
   pub is : bytes ≡ piece_bytes name ++ (piece_bytes content ++ rest)
 
 -- they begin with no file
@@ -47,10 +47,10 @@ pub record BeginsNoFile (bytes : List ℕ) : Type 0 where
   pub none : (name content rest : List ℕ) → BeginsFile name content rest bytes → ⊥
 
 -- they are the files of this folder, the newest last
-pub record IsFolder (folder : FolderValue) (bytes : List ℕ) : Type 0 where
+pub record IsFolderOf (folder : FolderValue) (bytes : List ℕ) : Type 0 where
   pub files_are : AreFiles (reverse folder)
   pub is : bytes ≡ files_bytes (reverse folder)
 
 -- they are no folder
 pub record IsNoFolder (bytes : List ℕ) : Type 0 where
-  pub none : (folder : FolderValue) → IsFolder folder bytes → ⊥
+  pub none : (folder : FolderValue) → IsFolderOf folder bytes → ⊥

@@ -1,7 +1,7 @@
 //! Laws of the format.
 
 ghost use Rattle.page_format.specs.Given.{IsGivenOnce};
-ghost use Rattle.page_format.specs.Told.{IsToldOnce};
+ghost use Rattle.page_format.specs.Written.{IsReadOnce};
 
 /// A law and no work: bytes are the words and files of at most one list of words and one folder.
 pub fn given_is_read_once()
@@ -9,6 +9,6 @@ pub fn given_is_read_once()
 {}
 
 /// A law and no work: bytes are at most one status with its output, its reported text and its files.
-pub fn told_is_read_once()
-    ensures { IsToldOnce }
+pub fn outcome_is_read_once()
+    ensures { IsReadOnce }
 {}

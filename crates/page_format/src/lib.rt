@@ -11,6 +11,6 @@ mod laws;
 mod reading;
 mod writing;
 
-pub use laws::{given_is_read_once, told_is_read_once};
+pub use laws::{given_is_read_once, outcome_is_read_once};
 pub use reading::{Given, given_of};
-pub use writing::{files_since, told_of};
+pub use writing::{files_since, reported_of};

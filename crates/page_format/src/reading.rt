@@ -1,9 +1,9 @@
 //! Reading what a host hands over.
 
 ghost use Rattle.std.specs.Prelude.{◌≡◌, ◌<◌, IfOk, MatchOption, length};
-ghost use Rattle.page_format.specs.Given.{IsGiven, IsNotGiven};
+ghost use Rattle.page_format.specs.Given.{IsHostGiven, IsNotGiven};
 ghost use Rattle.page_format.specs.Pieces.{words_value};
-ghost use Rattle.page_format.specs.Reading.{BeginsFile, BeginsNoFile, BeginsNoPiece, BeginsNoWord, BeginsNoWords, BeginsNumber, BeginsPiece, BeginsWord, BeginsWords, IsFolder, IsNoFolder};
+ghost use Rattle.page_format.specs.Reading.{BeginsFile, BeginsNoFile, BeginsNoPiece, BeginsNoWord, BeginsNoWords, BeginsNumber, BeginsPiece, BeginsWord, BeginsWords, IsFolderOf, IsNoFolder};
 
 use folders::Folder;
 use std::alloc::{AllocError, Global};
@@ -87,7 +87,7 @@ fn folder_of(
     bytes: &[u8],
 ) -> Result<Option<Folder<'static>>, AllocError>
     ensures { IfOk result (λ found. MatchOption found (IsNoFolder bytes.now)
-        (λ folder. IsFolder folder bytes.now)) }
+        (λ folder. IsFolderOf folder bytes.now)) }
 {
     let mut folder = Folder::new(alloc, held);
     let mut rest = bytes;
@@ -122,7 +122,7 @@ pub fn given_of<'a>(
     bytes: &'a [u8],
 ) -> Result<Option<Given<'a>>, AllocError>
     ensures { IfOk result (λ found. MatchOption found (IsNotGiven bytes.now)
-        (λ given. IsGiven (words_value given.words.items) given.folder bytes.now)) }
+        (λ given. IsHostGiven (words_value given.words.items) given.folder bytes.now)) }
 {
     let Some((count, rest)) = number_of(bytes) else {
         return Ok(None);

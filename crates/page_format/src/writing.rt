@@ -2,8 +2,8 @@
 
 ghost use Rattle.std.specs.Prelude.{◌≡◌, ◌++◌, IfOk, OnOk};
 ghost use Rattle.folders.specs.Folders.{sheets_value};
-ghost use Rattle.page_format.specs.Pieces.{AreShort, IsShort, files_bytes, number_bytes, piece_bytes};
-ghost use Rattle.page_format.specs.Told.{IsTold, files_since};
+ghost use Rattle.page_format.specs.Pieces.{AreShort, IsShortPiece, files_bytes, number_bytes, piece_bytes};
+ghost use Rattle.page_format.specs.Written.{IsOutcomeWritten, files_since};
 
 use folders::{Folder, Sheet};
 use std::alloc::{AllocError, Global};
@@ -18,7 +18,7 @@ fn add_number(bytes: &mut Vec<u8>, number: u32) -> Result<(), AllocError>
 /// Adds a piece, if it is short.
 #[tactic(auto, using(crate::proofs::Written::piece_written))]
 fn add_piece(bytes: &mut Vec<u8>, piece: &[u8]) -> Result<(), AllocError>
-    ensures short { OnOk result (IsShort piece.now) }
+    ensures short { OnOk result (IsShortPiece piece.now) }
     ensures added { OnOk result (bytes.new.items ≡ bytes.old.items ++ piece_bytes piece.now) }
 {
     let Ok(length) = u32::try_from(piece.len()) else {
@@ -48,21 +48,21 @@ fn add_sheets(bytes: &mut Vec<u8>, sheets: &[Sheet]) -> Result<(), AllocError>
 /// # Errors
 ///
 /// If memory is refused, or a piece has 4 GiB or more.
-#[tactic(auto, using(crate::proofs::Written::told_written))]
-pub fn told_of(
+#[tactic(auto, using(crate::proofs::Written::reported_written))]
+pub fn reported_of(
     alloc: Global,
     status: u8,
     out: &[u8],
-    told: &[u8],
+    reported: &[u8],
     files: &[Sheet],
 ) -> Result<Vec<u8>, AllocError>
-    ensures { IfOk result (λ bytes. IsTold status out.now told.now
+    ensures { IfOk result (λ bytes. IsOutcomeWritten status out.now reported.now
         (sheets_value files.now) bytes.items) }
 {
     let mut bytes = Vec::new(alloc);
     add_number(&mut bytes, u32::from(status))?;
     add_piece(&mut bytes, out)?;
-    add_piece(&mut bytes, told)?;
+    add_piece(&mut bytes, reported)?;
     add_sheets(&mut bytes, files)?;
     Ok(bytes)
 }

@@ -6,8 +6,8 @@ use Rattle.std.proofs.lemmas.List.{get_or-map, length-map, map-set}
 use Rattle.machine.specs.Sizes.{Maps}
 use Rattle.machine.specs.declared.calls.Question.{Question}
 use Rattle.machine.specs.declared.helpers.Helper.{Helper}
-use Rattle.plain_cells.specs.Pairs.{IsPair, PairsValue, agree, complement, complements, greatest, kept_of_pair, pairs_behind, told_by_pairs, told_of_pair, word_of_pair}
-use Rattle.plain_cells.specs.Words.{same_words, told_by_words, told_of_word, with_word, word_at, word_behind, words_behind, zero_words}
+use Rattle.plain_cells.specs.Pairs.{IsPair, PairsValue, agree, complement, complements, greatest, kept_of_pair, pairs_after_question, answer_by_pairs, answer_of_pair, word_of_pair}
+use Rattle.plain_cells.specs.Words.{same_words, answer_by_words, answer_of_word, with_word, key_word_at, word_after_question, words_after_question, zero_words}
 
 pub ok_then : {X E : Type 0} {P Q : X → Type 0} (r : Result X E) → ((x : X) → P x → Q x) → IfOk r P → IfOk r Q
 ok_then (Ok x) gives is = gives x is
@@ -40,7 +40,7 @@ pair_there p m k is map_there key_there = record {
   kept_key = rw (is, row_at p.words m map_there, length-map (slice_index_or p.words m []) complement) key_there;
 }
 
-kept_at : (words : List (List ℕ)) (m k : ℕ) → m < length words → k < length (slice_index_or words m []) → word_at (complements words) m k ≡ complement (word_at words m k)
+kept_at : (words : List (List ℕ)) (m k : ℕ) → m < length words → k < length (slice_index_or words m []) → key_word_at (complements words) m k ≡ complement (key_word_at words m k)
 kept_at words m k map_there key_there =
     ap (λ (row : List ℕ). slice_index row k) (row_at words m map_there) ∙ get_or-map complement (slice_index_or words m []) k 0 0 key_there
 
@@ -54,33 +54,33 @@ kept_with words m k word map_there =
 agreed : (word kept : ℕ) → kept ≡ complement word → agree word kept ≡ true
 agreed word kept is = eq-eqb kept (complement word) is
 
-told_agreed : (h : Helper) (word kept argument : ℕ) → agree word kept ≡ true → told_of_pair h word kept argument ≡ told_of_word h word argument
-told_agreed h word kept argument is = ap (λ (b : Bool). if b then told_of_word h word argument else greatest) is
+answered_agreed : (h : Helper) (word kept argument : ℕ) → agree word kept ≡ true → answer_of_pair h word kept argument ≡ answer_of_word h word argument
+answered_agreed h word kept argument is = ap (λ (b : Bool). if b then answer_of_word h word argument else greatest) is
 
-word_agreed : (h : Helper) (word kept argument : ℕ) → agree word kept ≡ true → word_of_pair h word kept argument ≡ word_behind h word argument
-word_agreed h word kept argument is = ap (λ (b : Bool). if b then word_behind h word argument else word) is
+word_agreed : (h : Helper) (word kept argument : ℕ) → agree word kept ≡ true → word_of_pair h word kept argument ≡ word_after_question h word argument
+word_agreed h word kept argument is = ap (λ (b : Bool). if b then word_after_question h word argument else word) is
 
-kept_agreed : (h : Helper) (word kept argument : ℕ) → agree word kept ≡ true → kept_of_pair h word kept argument ≡ complement (word_behind h word argument)
-kept_agreed h word kept argument is = ap (λ (b : Bool). if b then complement (word_behind h word argument) else kept) is
+kept_agreed : (h : Helper) (word kept argument : ℕ) → agree word kept ≡ true → kept_of_pair h word kept argument ≡ complement (word_after_question h word argument)
+kept_agreed h word kept argument is = ap (λ (b : Bool). if b then complement (word_after_question h word argument) else kept) is
 
 -- ---- of words beside their complements
 
 module _ (p : PairsValue) (q : Question) (is : p.kept ≡ complements p.words) (map_there : q.map < length p.words) (key_there : q.key < length (slice_index_or p.words q.map [])) where
-  agrees_there : agree (word_at p.words q.map q.key) (word_at (complements p.words) q.map q.key) ≡ true
+  agrees_there : agree (key_word_at p.words q.map q.key) (key_word_at (complements p.words) q.map q.key) ≡ true
   agrees_there = agreed _ _ (kept_at p.words q.map q.key map_there key_there)
 
-  pub told_whole : told_by_pairs p q ≡ told_by_words p.words q
-  told_whole =
-      ap (λ (kept : List (List ℕ)). told_of_pair q.helper (word_at p.words q.map q.key) (word_at kept q.map q.key) q.argument) is
-      ∙ told_agreed q.helper (word_at p.words q.map q.key) (word_at (complements p.words) q.map q.key) q.argument agrees_there
+  pub answered_whole : answer_by_pairs p q ≡ answer_by_words p.words q
+  answered_whole =
+      ap (λ (kept : List (List ℕ)). answer_of_pair q.helper (key_word_at p.words q.map q.key) (key_word_at kept q.map q.key) q.argument) is
+      ∙ answered_agreed q.helper (key_word_at p.words q.map q.key) (key_word_at (complements p.words) q.map q.key) q.argument agrees_there
 
-  pub words_whole : (pairs_behind p q).words ≡ words_behind p.words q
+  pub words_whole : (pairs_after_question p q).words ≡ words_after_question p.words q
   words_whole =
-      ap (λ (kept : List (List ℕ)). with_word p.words q.map q.key (word_of_pair q.helper (word_at p.words q.map q.key) (word_at kept q.map q.key) q.argument)) is
-      ∙ ap (λ (w : ℕ). with_word p.words q.map q.key w) (word_agreed q.helper (word_at p.words q.map q.key) (word_at (complements p.words) q.map q.key) q.argument agrees_there)
+      ap (λ (kept : List (List ℕ)). with_word p.words q.map q.key (word_of_pair q.helper (key_word_at p.words q.map q.key) (key_word_at kept q.map q.key) q.argument)) is
+      ∙ ap (λ (w : ℕ). with_word p.words q.map q.key w) (word_agreed q.helper (key_word_at p.words q.map q.key) (key_word_at (complements p.words) q.map q.key) q.argument agrees_there)
 
-  pub kept_words : (pairs_behind p q).kept ≡ complements (words_behind p.words q)
+  pub kept_words : (pairs_after_question p q).kept ≡ complements (words_after_question p.words q)
   kept_words =
-      ap (λ (kept : List (List ℕ)). with_word kept q.map q.key (kept_of_pair q.helper (word_at p.words q.map q.key) (word_at kept q.map q.key) q.argument)) is
-      ∙ ap (λ (w : ℕ). with_word (complements p.words) q.map q.key w) (kept_agreed q.helper (word_at p.words q.map q.key) (word_at (complements p.words) q.map q.key) q.argument agrees_there)
-      ∙ kept_with p.words q.map q.key (word_behind q.helper (word_at p.words q.map q.key) q.argument) map_there
+      ap (λ (kept : List (List ℕ)). with_word kept q.map q.key (kept_of_pair q.helper (key_word_at p.words q.map q.key) (key_word_at kept q.map q.key) q.argument)) is
+      ∙ ap (λ (w : ℕ). with_word (complements p.words) q.map q.key w) (kept_agreed q.helper (key_word_at p.words q.map q.key) (key_word_at (complements p.words) q.map q.key) q.argument agrees_there)
+      ∙ kept_with p.words q.map q.key (word_after_question q.helper (key_word_at p.words q.map q.key) q.argument) map_there

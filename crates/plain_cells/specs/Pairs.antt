@@ -2,7 +2,7 @@
 use Rattle.std.specs.Prelude.{◌<◌, ◌-◌, ◌^◌, ◌==◌, ℕ, Bool, List, [], length, map, slice_index_or, if◌then◌else◌}
 use Rattle.machine.specs.declared.calls.Question.{Question}
 use Rattle.machine.specs.declared.helpers.Helper.{Helper}
-use Rattle.plain_cells.specs.Words.{told_of_word, with_word, word_at, word_behind}
+use Rattle.plain_cells.specs.Words.{answer_of_word, with_word, key_word_at, word_after_question}
 
 -- the greatest word
 abbrev pub greatest : ℕ
@@ -17,17 +17,17 @@ abbrev pub agree : (word kept : ℕ) → Bool
 agree word kept = kept == complement word
 
 -- What a helper answers of a cell. If the pair does not agree, it is the greatest word, as for a cell that is spent.
-abbrev pub told_of_pair : Helper → (word kept argument : ℕ) → ℕ
-told_of_pair helper word kept argument = if agree word kept then told_of_word helper word argument else greatest
+abbrev pub answer_of_pair : Helper → (word kept argument : ℕ) → ℕ
+answer_of_pair helper word kept argument = if agree word kept then answer_of_word helper word argument else greatest
 
 -- The word after that. If the pair does not agree it is as it was.
 abbrev pub word_of_pair : Helper → (word kept argument : ℕ) → ℕ
-word_of_pair helper word kept argument = if agree word kept then word_behind helper word argument else word
+word_of_pair helper word kept argument = if agree word kept then word_after_question helper word argument else word
 
 -- and its complement
 abbrev pub kept_of_pair : Helper → (word kept argument : ℕ) → ℕ
 kept_of_pair helper word kept argument =
-    if agree word kept then complement (word_behind helper word argument) else kept
+    if agree word kept then complement (word_after_question helper word argument) else kept
 
 -- the words of cells and what is kept beside each, by map and key
 pub record PairsValue : Type 0 where
@@ -39,16 +39,16 @@ abbrev pub complements : List (List ℕ) → List (List ℕ)
 complements words = map (λ row. map complement row) words
 
 -- what the pairs answer to a question
-abbrev pub told_by_pairs : PairsValue → Question → ℕ
-told_by_pairs p q = told_of_pair q.helper (word_at p.words q.map q.key) (word_at p.kept q.map q.key) q.argument
+abbrev pub answer_by_pairs : PairsValue → Question → ℕ
+answer_by_pairs p q = answer_of_pair q.helper (key_word_at p.words q.map q.key) (key_word_at p.kept q.map q.key) q.argument
 
 -- the pairs after a question
-abbrev pub pairs_behind : PairsValue → Question → PairsValue
-pairs_behind p q = record {
+abbrev pub pairs_after_question : PairsValue → Question → PairsValue
+pairs_after_question p q = record {
   words = with_word p.words q.map q.key
-      (word_of_pair q.helper (word_at p.words q.map q.key) (word_at p.kept q.map q.key) q.argument);
+      (word_of_pair q.helper (key_word_at p.words q.map q.key) (key_word_at p.kept q.map q.key) q.argument);
   kept = with_word p.kept q.map q.key
-      (kept_of_pair q.helper (word_at p.words q.map q.key) (word_at p.kept q.map q.key) q.argument);
+      (kept_of_pair q.helper (key_word_at p.words q.map q.key) (key_word_at p.kept q.map q.key) q.argument);
 }
 
 -- there is such a pair

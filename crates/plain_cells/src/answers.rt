@@ -1,15 +1,15 @@
 //! What a helper makes of the word of a cell.
 
 ghost use Rattle.std.specs.Prelude.{◌≡◌};
-ghost use Rattle.plain_cells.specs.Pairs.{complement, kept_of_pair, told_of_pair, word_of_pair};
-ghost use Rattle.plain_cells.specs.Words.{told_of_word, word_behind};
+ghost use Rattle.plain_cells.specs.Pairs.{complement, kept_of_pair, answer_of_pair, word_of_pair};
+ghost use Rattle.plain_cells.specs.Words.{answer_of_word, word_after_question};
 
 use machine::Helper;
 
 /// What a helper makes of the word of a cell, asked with that argument: its answer, and the word after that.
 pub fn answered(helper: Helper, word: u64, argument: u64) -> (u64, u64)
-    ensures told { result.0 ≡ told_of_word helper word argument }
-    ensures behind { result.1 ≡ word_behind helper word argument }
+    ensures reported { result.0 ≡ answer_of_word helper word argument }
+    ensures following { result.1 ≡ word_after_question helper word argument }
 {
     match helper {
         Helper::Count => (word, word),
@@ -25,7 +25,7 @@ pub fn answered(helper: Helper, word: u64, argument: u64) -> (u64, u64)
 #[derive(Clone, Copy, Debug)]
 pub struct PairAnswer {
     /// Its answer.
-    pub told: u64,
+    pub reported: u64,
     /// The word after that.
     pub word: u64,
     /// What is kept beside it then.
@@ -42,20 +42,20 @@ pub fn complement(word: u64) -> u64
 /// What a helper makes of a pair, asked with that argument. A pair that does not agree is spent: the answer is the
 /// greatest word, and the pair stays as it is.
 pub fn answered_pair(helper: Helper, word: u64, kept: u64, argument: u64) -> PairAnswer
-    ensures told { result.told ≡ told_of_pair helper word kept argument }
+    ensures reported { result.reported ≡ answer_of_pair helper word kept argument }
     ensures word { result.word ≡ word_of_pair helper word kept argument }
     ensures kept { result.kept ≡ kept_of_pair helper word kept argument }
 {
     if kept == complement(word) {
-        let (told, behind) = answered(helper, word, argument);
+        let (reported, following) = answered(helper, word, argument);
         return PairAnswer {
-            told,
-            word: behind,
-            kept: complement(behind),
+            reported,
+            word: following,
+            kept: complement(following),
         };
     }
     PairAnswer {
-        told: u64::MAX,
+        reported: u64::MAX,
         word,
         kept,
     }

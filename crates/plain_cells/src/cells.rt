@@ -25,10 +25,10 @@ pub struct PlainCells {
 
 impl Model for PlainCells {
     ghost use Rattle.std.specs.Prelude.{◌≡◌};
-    ghost use Rattle.plain_cells.specs.Cells.{AreInOrder, CellsValue, cells_of};
+    ghost use Rattle.plain_cells.specs.Cells.{AreInOrder, PlainCellsValue, cells_of};
     ghost use Rattle.plain_cells.specs.Pairs.{complements};
 
-    ghost Value = { CellsValue };
+    ghost Value = { PlainCellsValue };
 
     ghost view = { λ c. cells_of c.sizes c.pairs.words c.log.calls };
 

@@ -1,7 +1,7 @@
 //! The words of a node's cells, each beside its complement.
 
 ghost use Rattle.std.specs.Prelude.{◌≡◌, IfOk};
-ghost use Rattle.plain_cells.specs.Pairs.{IsPair, pairs_behind, told_by_pairs, whole_pairs};
+ghost use Rattle.plain_cells.specs.Pairs.{IsPair, pairs_after_question, answer_by_pairs, whole_pairs};
 ghost use Rattle.plain_cells.specs.Words.{word_in, zero_words};
 
 use crate::answers::answered_pair;
@@ -51,14 +51,14 @@ impl CellPairs {
     /// Answers a question by the pair of its cell, which then is what the helper makes of it. The condition is a pair that is there.
     pub fn ask(&mut self, asked: Question) -> u64
         requires { IsPair self.old asked.map asked.key }
-        ensures told { result ≡ told_by_pairs self.old asked }
-        ensures behind { self.new ≡ pairs_behind self.old asked }
+        ensures reported { result ≡ answer_by_pairs self.old asked }
+        ensures following { self.new ≡ pairs_after_question self.old asked }
     {
         let word = self.words.word(asked.map, asked.key);
         let kept = self.kept.word(asked.map, asked.key);
         let answer = answered_pair(asked.helper, word, kept, asked.argument);
         self.words.set(asked.map, asked.key, answer.word);
         self.kept.set(asked.map, asked.key, answer.kept);
-        answer.told
+        answer.reported
     }
 }

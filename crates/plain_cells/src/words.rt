@@ -1,7 +1,7 @@
 //! The words of a node's cells.
 
 ghost use Rattle.std.specs.Prelude.{◌≡◌, ◌<◌, IfOk, ℕ, List, [], length, replicate, slice_get, slice_index, slice_index_or, slice_set};
-ghost use Rattle.plain_cells.specs.Words.{AreCells, AreZeros, same_words, with_word, word_at, word_in, zero_words};
+ghost use Rattle.plain_cells.specs.Words.{AreCells, AreZeros, same_words, with_word, key_word_at, word_in, zero_words};
 
 use machine::MapSizes;
 use std::alloc::{AllocError, Global};
@@ -109,7 +109,7 @@ impl CellWords {
     pub fn word(&self, map: u8, key: u16) -> u64
         requires map { map < length self.now }
         requires key { key < length (slice_index_or self.now map []) }
-        ensures { result ≡ word_at self.now map key }
+        ensures { result ≡ key_word_at self.now map key }
     {
         self.maps[usize::from(map)].word(key)
     }

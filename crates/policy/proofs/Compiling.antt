@@ -18,20 +18,20 @@ use Rattle.machine.specs.declared.regions.Region.TheVariants.{Front, Tail}
 use Rattle.machine.specs.declared.values.Value.{Value}
 use Rattle.machine.specs.declared.values.Value.TheVariants.{Num, Ptr}
 use Rattle.machine.specs.Laws.{AnswersDecide, RunsFromTheFront, StepPerforms}
-use Rattle.machine.specs.Memory.{Header, IsHeader, byte_after}
+use Rattle.machine.specs.Memory.{Header, IsProgramHeader, byte_after}
 use Rattle.machine.specs.Runs.{Ends, Runs}
 use Rattle.machine.specs.State.{State, entry_register, entry_state, register_after, state}
 use Rattle.machine.specs.Step.{Next, alu, knows_insn, loads, perform, perform_at, writes}
 use Rattle.machine.specs.Words.{swapped_bytes}
 use Rattle.rmap.specs.Command.{address_of, extended_of, increments, command_kind, initiator_of, key_of, length_of}
-use Rattle.policy.specs.Code.{address_code, applied, asks_ports, keep_code, port_kept, port_rule_code, port_test, rule_slots, behind_extended, behind_initiator, behind_key, behind_kind, behind_range, field_slots, field_test, kind_slots, kind_test, last_address_code, loaded, quota_slots, quota_test, range_test, rule_code, rules_code, skips_if, swapped, table_code, verdict_code}
+use Rattle.policy.specs.Code.{address_code, applied, asks_ports, keep_code, port_kept, port_rule_code, port_test, rule_slots, after_extended, after_initiator, after_key, after_kind, slots_after_range, field_slots, field_test, kind_slots, kind_test, last_address_code, loaded, quota_slots, quota_test, range_test, rule_code, rules_code, skips_if, swapped, table_code, verdict_code}
 use Rattle.rmap.specs.Verdict.{verdict_number}
 use Rattle.policy.specs.Compiled.{HasPortMeaning}
 use Rattle.policy_table.specs.Laws.{DrawsAreAnswered}
 use Rattle.policy_table.specs.Limits.{FitsFields}
 use Rattle.policy_table.specs.Ports.{FitsPort, port_decision, rules_at}
 use Rattle.policy.specs.Meant.{table_program}
-use Rattle.policy_table.specs.Meaning.{AreWords, agrees, decision, fields_of, has_kind, last_address_of, lies_between, ruled}
+use Rattle.policy_table.specs.Meaning.{AreAnswerWords, agrees, decision, fields_of, agrees_with_kind, last_address_of, lies_between, ruled}
 use Rattle.policy_table.specs.declared.port_rules.PortRule.{PortRule}
 use Rattle.policy_table.specs.declared.rules.Quota.{Quota}
 use Rattle.policy_table.specs.declared.rules.Rule.{Rule}
@@ -45,22 +45,22 @@ use Rattle.policy.proofs.Testing.{EndsFrom, Keeps, Setting, Stands, field_tested
 
 -- ---- how many slots the tests have
 
-kind_after : (slot : ℕ) (kind : RuleKind) (behind : ℕ) → slot_after slot (kind_test kind behind) ≡ slot + kind_slots kind
-kind_after slot Any behind = omega arith
-kind_after slot Read behind = omega arith
-kind_after slot Write behind = omega arith
-kind_after slot Rmw behind = omega arith
+kind_after : (slot : ℕ) (kind : RuleKind) (following : ℕ) → slot_after slot (kind_test kind following) ≡ slot + kind_slots kind
+kind_after slot Any following = omega arith
+kind_after slot Read following = omega arith
+kind_after slot Write following = omega arith
+kind_after slot Rmw following = omega arith
 
-field_after : (slot : ℕ) (field : Option ℕ) (base offset behind : ℕ) → slot_after slot (field_test field base offset behind) ≡ slot + field_slots field
-field_after slot None base offset behind = omega arith
-field_after slot (Some wanted) base offset behind = omega arith
+field_after : (slot : ℕ) (field : Option ℕ) (base offset following : ℕ) → slot_after slot (field_test field base offset following) ≡ slot + field_slots field
+field_after slot None base offset following = omega arith
+field_after slot (Some wanted) base offset following = omega arith
 
-range_after : (slot low high behind : ℕ) → slot_after slot (range_test low high behind) ≡ slot + 4
-range_after slot low high behind = omega arith
+range_after : (slot low high following : ℕ) → slot_after slot (range_test low high following) ≡ slot + 4
+range_after slot low high following = omega arith
 
-quota_after : (slot : ℕ) (quota : Option Quota) (behind : ℕ) → slot_after slot (quota_test quota behind) ≡ slot + quota_slots quota
-quota_after slot None behind = omega arith
-quota_after slot (Some quota) behind = omega arith
+quota_after : (slot : ℕ) (quota : Option Quota) (following : ℕ) → slot_after slot (quota_test quota following) ≡ slot + quota_slots quota
+quota_after slot None following = omega arith
+quota_after slot (Some quota) following = omega arith
 
 verdict_after : (slot code : ℕ) → slot_after slot (verdict_code code) ≡ slot + 2
 verdict_after slot code = omega arith
@@ -99,16 +99,16 @@ abbrev from_quota : Rule → List Insn
 from_quota rule = quota_test rule.quota 2 ++ verdict_code (verdict_number rule.verdict)
 
 abbrev from_range : Rule → List Insn
-from_range rule = range_test rule.low rule.high (behind_range rule) ++ from_quota rule
+from_range rule = range_test rule.low rule.high (slots_after_range rule) ++ from_quota rule
 
 abbrev from_extended : Rule → List Insn
-from_extended rule = field_test rule.extended 7 3 (behind_extended rule) ++ from_range rule
+from_extended rule = field_test rule.extended 7 3 (after_extended rule) ++ from_range rule
 
 abbrev from_initiator : Rule → List Insn
-from_initiator rule = field_test rule.initiator 7 0 (behind_initiator rule) ++ from_extended rule
+from_initiator rule = field_test rule.initiator 7 0 (after_initiator rule) ++ from_extended rule
 
 abbrev from_key : Rule → List Insn
-from_key rule = field_test rule.key 6 3 (behind_key rule) ++ from_initiator rule
+from_key rule = field_test rule.key 6 3 (after_key rule) ++ from_initiator rule
 
 -- the slot at which the tests of a rule begin
 abbrev key_at : ℕ → Rule → ℕ
@@ -134,88 +134,88 @@ abbrev pub end_of : ℕ → Rule → ℕ
 end_of slot rule = verdict_at slot rule + 2
 
 -- the tests of a rule one after the other
-behind_each_other : (a b c d e f g : List Insn) → a ++ b ++ c ++ d ++ e ++ f ++ g ≡ a ++ (b ++ (c ++ (d ++ (e ++ (f ++ g)))))
-behind_each_other a b c d e f g = simp append_assoc
+one_after_another : (a b c d e f g : List Insn) → a ++ b ++ c ++ d ++ e ++ f ++ g ≡ a ++ (b ++ (c ++ (d ++ (e ++ (f ++ g)))))
+one_after_another a b c d e f g = simp append_assoc
 
-pub in_turn : (rule : Rule) → rule_code rule ≡ kind_test rule.kind (behind_kind rule) ++ from_key rule
+pub in_turn : (rule : Rule) → rule_code rule ≡ kind_test rule.kind (after_kind rule) ++ from_key rule
 in_turn rule =
-    behind_each_other (kind_test rule.kind (behind_kind rule)) (field_test rule.key 6 3 (behind_key rule)) (field_test rule.initiator 7 0 (behind_initiator rule)) (field_test rule.extended 7 3 (behind_extended rule)) (range_test rule.low rule.high (behind_range rule)) (quota_test rule.quota 2) (verdict_code (verdict_number rule.verdict))
+    one_after_another (kind_test rule.kind (after_kind rule)) (field_test rule.key 6 3 (after_key rule)) (field_test rule.initiator 7 0 (after_initiator rule)) (field_test rule.extended 7 3 (after_extended rule)) (range_test rule.low rule.high (slots_after_range rule)) (quota_test rule.quota 2) (verdict_code (verdict_number rule.verdict))
 
 rule_after : (slot : ℕ) (rule : Rule) → slot_after slot (rule_code rule) ≡ end_of slot rule
 rule_after slot rule =
     ap (λ (insns : List Insn). slot_after slot insns) (in_turn rule)
-    ∙ after_both slot (key_at slot rule) (kind_test rule.kind (behind_kind rule)) (from_key rule) (kind_after slot rule.kind (behind_kind rule))
-    ∙ after_both (key_at slot rule) (initiator_at slot rule) (field_test rule.key 6 3 (behind_key rule)) (from_initiator rule) (field_after (key_at slot rule) rule.key 6 3 (behind_key rule))
-    ∙ after_both (initiator_at slot rule) (extended_at slot rule) (field_test rule.initiator 7 0 (behind_initiator rule)) (from_extended rule) (field_after (initiator_at slot rule) rule.initiator 7 0 (behind_initiator rule))
-    ∙ after_both (extended_at slot rule) (range_at slot rule) (field_test rule.extended 7 3 (behind_extended rule)) (from_range rule) (field_after (extended_at slot rule) rule.extended 7 3 (behind_extended rule))
-    ∙ after_both (range_at slot rule) (quota_at slot rule) (range_test rule.low rule.high (behind_range rule)) (from_quota rule) (range_after (range_at slot rule) rule.low rule.high (behind_range rule))
+    ∙ after_both slot (key_at slot rule) (kind_test rule.kind (after_kind rule)) (from_key rule) (kind_after slot rule.kind (after_kind rule))
+    ∙ after_both (key_at slot rule) (initiator_at slot rule) (field_test rule.key 6 3 (after_key rule)) (from_initiator rule) (field_after (key_at slot rule) rule.key 6 3 (after_key rule))
+    ∙ after_both (initiator_at slot rule) (extended_at slot rule) (field_test rule.initiator 7 0 (after_initiator rule)) (from_extended rule) (field_after (initiator_at slot rule) rule.initiator 7 0 (after_initiator rule))
+    ∙ after_both (extended_at slot rule) (range_at slot rule) (field_test rule.extended 7 3 (after_extended rule)) (from_range rule) (field_after (extended_at slot rule) rule.extended 7 3 (after_extended rule))
+    ∙ after_both (range_at slot rule) (quota_at slot rule) (range_test rule.low rule.high (slots_after_range rule)) (from_quota rule) (range_after (range_at slot rule) rule.low rule.high (slots_after_range rule))
     ∙ after_both (quota_at slot rule) (verdict_at slot rule) (quota_test rule.quota 2) (verdict_code (verdict_number rule.verdict)) (quota_after (quota_at slot rule) rule.quota 2)
     ∙ verdict_after (verdict_at slot rule) (verdict_number rule.verdict)
 
 -- the tests of a rule, each at its first slot
 record StandsThere (program : Program) (slot : ℕ) (rule : Rule) : Type 0 where
-  kind : StandAt program slot (kind_test rule.kind (behind_kind rule))
-  key : StandAt program (key_at slot rule) (field_test rule.key 6 3 (behind_key rule))
-  initiator : StandAt program (initiator_at slot rule) (field_test rule.initiator 7 0 (behind_initiator rule))
-  extended : StandAt program (extended_at slot rule) (field_test rule.extended 7 3 (behind_extended rule))
-  range : StandAt program (range_at slot rule) (range_test rule.low rule.high (behind_range rule))
+  kind : StandAt program slot (kind_test rule.kind (after_kind rule))
+  key : StandAt program (key_at slot rule) (field_test rule.key 6 3 (after_key rule))
+  initiator : StandAt program (initiator_at slot rule) (field_test rule.initiator 7 0 (after_initiator rule))
+  extended : StandAt program (extended_at slot rule) (field_test rule.extended 7 3 (after_extended rule))
+  range : StandAt program (range_at slot rule) (range_test rule.low rule.high (slots_after_range rule))
   quota : StandAt program (quota_at slot rule) (quota_test rule.quota 2)
   verdict : StandAt program (verdict_at slot rule) (verdict_code (verdict_number rule.verdict))
 
 rule_stands : (program : Program) (slot : ℕ) (rule : Rule) → StandAt program slot (rule_code rule) → StandsThere program slot rule
 rule_stands program slot rule whole =
     let code = subst (λ (insns : List Insn). StandAt program slot insns) (in_turn rule) whole in
-    let kind = cut_at program slot (key_at slot rule) (kind_test rule.kind (behind_kind rule)) (from_key rule) (kind_after slot rule.kind (behind_kind rule)) code in
-    let key = cut_at program (key_at slot rule) (initiator_at slot rule) (field_test rule.key 6 3 (behind_key rule)) (from_initiator rule) (field_after (key_at slot rule) rule.key 6 3 (behind_key rule)) kind.1 in
-    let initiator = cut_at program (initiator_at slot rule) (extended_at slot rule) (field_test rule.initiator 7 0 (behind_initiator rule)) (from_extended rule) (field_after (initiator_at slot rule) rule.initiator 7 0 (behind_initiator rule)) key.1 in
-    let extended = cut_at program (extended_at slot rule) (range_at slot rule) (field_test rule.extended 7 3 (behind_extended rule)) (from_range rule) (field_after (extended_at slot rule) rule.extended 7 3 (behind_extended rule)) initiator.1 in
-    let range = cut_at program (range_at slot rule) (quota_at slot rule) (range_test rule.low rule.high (behind_range rule)) (from_quota rule) (range_after (range_at slot rule) rule.low rule.high (behind_range rule)) extended.1 in
+    let kind = cut_at program slot (key_at slot rule) (kind_test rule.kind (after_kind rule)) (from_key rule) (kind_after slot rule.kind (after_kind rule)) code in
+    let key = cut_at program (key_at slot rule) (initiator_at slot rule) (field_test rule.key 6 3 (after_key rule)) (from_initiator rule) (field_after (key_at slot rule) rule.key 6 3 (after_key rule)) kind.1 in
+    let initiator = cut_at program (initiator_at slot rule) (extended_at slot rule) (field_test rule.initiator 7 0 (after_initiator rule)) (from_extended rule) (field_after (initiator_at slot rule) rule.initiator 7 0 (after_initiator rule)) key.1 in
+    let extended = cut_at program (extended_at slot rule) (range_at slot rule) (field_test rule.extended 7 3 (after_extended rule)) (from_range rule) (field_after (extended_at slot rule) rule.extended 7 3 (after_extended rule)) initiator.1 in
+    let range = cut_at program (range_at slot rule) (quota_at slot rule) (range_test rule.low rule.high (slots_after_range rule)) (from_quota rule) (range_after (range_at slot rule) rule.low rule.high (slots_after_range rule)) extended.1 in
     let quota = cut_at program (quota_at slot rule) (verdict_at slot rule) (quota_test rule.quota 2) (verdict_code (verdict_number rule.verdict)) (quota_after (quota_at slot rule) rule.quota 2) range.1 in
     record { kind = kind.0; key = key.0; initiator = initiator.0; extended = extended.0; range = range.0; quota = quota.0; verdict = quota.1 }
 
 -- from a slot, the rules decide, whatever the answers
 pub record RulesEnd (m : Setting) (slot : ℕ) (rules : List Rule) : Type 0 where
-  pub ends : (told : ℕ → ℕ) → AreWords told → EndsFrom m slot (decision rules m.header told)
+  pub ends : (reported : ℕ → ℕ) → AreAnswerWords reported → EndsFrom m slot (decision rules m.header reported)
 
 rule_decides : (m : Setting) (slot : ℕ) (rule : Rule) (rules : List Rule) → FitsFields rule → StandsThere m.program slot rule
     → RulesEnd m (end_of slot rule) rules → RulesEnd m slot (rule ∷ rules)
 rule_decides m slot rule rules fits code others = record {
-  ends = λ told words.
+  ends = λ reported words.
       let end : ℕ = end_of slot rule in
       let header : Header = m.header in
       let code_of : ℕ = verdict_number rule.verdict in
-      let later : Decision = decision rules header (λ k. told (suc k)) in
-      let unmet : Decision = decision rules header told in
-      let met : Decision = ruled rule.quota code_of told later in
+      let later : Decision = decision rules header (λ k. reported (suc k)) in
+      let unmet : Decision = decision rules header reported in
+      let met : Decision = ruled rule.quota code_of reported later in
       let last : Bool = lies_between rule.low rule.high (fields_of header) in
       let fourth : Bool = agrees rule.extended (extended_of (fields_of header)) in
       let third : Bool = agrees rule.initiator (initiator_of (fields_of header)) in
       let second : Bool = agrees rule.key (key_of (fields_of header)) in
-      let first : Bool = has_kind rule.kind (command_kind (fields_of header)) in
+      let first : Bool = agrees_with_kind rule.kind (command_kind (fields_of header)) in
       let key_is = in_front m 3 (key_of (fields_of header)) (front_loaded header m.is_header 3 (omega arith) refl) in
       let initiator_is = in_tail m 0 (initiator_of (fields_of header)) (tail_loaded header m.is_header 0 (omega arith) refl) in
       let extended_is = in_tail m 3 (extended_of (fields_of header)) (tail_loaded header m.is_header 3 (omega arith) refl) in
-      let there : EndsFrom m end unmet = others.ends told words in
-      let behind : EndsFrom m end later = others.ends (λ k. told (suc k)) (λ k. words (suc k)) in
+      let there : EndsFrom m end unmet = others.ends reported words in
+      let following : EndsFrom m end later = others.ends (λ k. reported (suc k)) (λ k. words (suc k)) in
       let verdict : EndsFrom m (verdict_at slot rule) ([], code_of) = verdict_given m (verdict_at slot rule) code_of (small_code rule.verdict) code.verdict in
-      let quota : EndsFrom m (quota_at slot rule) met = quota_tested m (quota_at slot rule) end code_of rule.quota told later (words 0) fits.quota code.quota refl verdict behind in
-      let range : EndsFrom m (range_at slot rule) (if last then met else unmet) = range_tested m (range_at slot rule) rule.low rule.high (behind_range rule) end met unmet fits.low fits.high code.range (omega arith) quota there in
+      let quota : EndsFrom m (quota_at slot rule) met = quota_tested m (quota_at slot rule) end code_of rule.quota reported later (words 0) fits.quota code.quota refl verdict following in
+      let range : EndsFrom m (range_at slot rule) (if last then met else unmet) = range_tested m (range_at slot rule) rule.low rule.high (slots_after_range rule) end met unmet fits.low fits.high code.range (omega arith) quota there in
       let with_range : Decision = if last then met else unmet in
-      let extended : EndsFrom m (extended_at slot rule) (if fourth then with_range else unmet) = field_tested m (extended_at slot rule) 7 3 (extended_of (fields_of header)) (behind_extended rule) end rule.extended with_range unmet extended_is code.extended fits.extended (omega arith) range there in
+      let extended : EndsFrom m (extended_at slot rule) (if fourth then with_range else unmet) = field_tested m (extended_at slot rule) 7 3 (extended_of (fields_of header)) (after_extended rule) end rule.extended with_range unmet extended_is code.extended fits.extended (omega arith) range there in
       let with_extended : Decision = if fourth then with_range else unmet in
-      let initiator : EndsFrom m (initiator_at slot rule) (if third then with_extended else unmet) = field_tested m (initiator_at slot rule) 7 0 (initiator_of (fields_of header)) (behind_initiator rule) end rule.initiator with_extended unmet initiator_is code.initiator fits.initiator (omega arith) extended there in
+      let initiator : EndsFrom m (initiator_at slot rule) (if third then with_extended else unmet) = field_tested m (initiator_at slot rule) 7 0 (initiator_of (fields_of header)) (after_initiator rule) end rule.initiator with_extended unmet initiator_is code.initiator fits.initiator (omega arith) extended there in
       let with_initiator : Decision = if third then with_extended else unmet in
-      let key : EndsFrom m (key_at slot rule) (if second then with_initiator else unmet) = field_tested m (key_at slot rule) 6 3 (key_of (fields_of header)) (behind_key rule) end rule.key with_initiator unmet key_is code.key fits.key (omega arith) initiator there in
+      let key : EndsFrom m (key_at slot rule) (if second then with_initiator else unmet) = field_tested m (key_at slot rule) 6 3 (key_of (fields_of header)) (after_key rule) end rule.key with_initiator unmet key_is code.key fits.key (omega arith) initiator there in
       let with_key : Decision = if second then with_initiator else unmet in
-      let kind : EndsFrom m slot (if first then with_key else unmet) = kind_tested m slot (behind_kind rule) end rule.kind with_key unmet code.kind (omega arith) key there in
+      let kind : EndsFrom m slot (if first then with_key else unmet) = kind_tested m slot (after_kind rule) end rule.kind with_key unmet code.kind (omega arith) key there in
       subst (λ (d : Decision). EndsFrom m slot d) (all_five first second third fourth last met unmet) kind;
 }
 
 -- ---- the rules, from the last
 
-port_after : (slot : ℕ) (field : Option ℕ) (behind : ℕ) → slot_after slot (port_test field behind) ≡ slot + field_slots field
-port_after slot None behind = omega arith
-port_after slot (Some port) behind = omega arith
+port_after : (slot : ℕ) (field : Option ℕ) (following : ℕ) → slot_after slot (port_test field following) ≡ slot + field_slots field
+port_after slot None following = omega arith
+port_after slot (Some port) following = omega arith
 
 pub port_rule_after : (slot : ℕ) (own : PortRule) → slot_after slot (port_rule_code own) ≡ end_of (slot + field_slots own.port) own.rule
 port_rule_after slot own =
@@ -223,9 +223,9 @@ port_rule_after slot own =
     ∙ rule_after (slot + field_slots own.port) own.rule
 
 -- a rule that is asked comes before the others; without it only the others decide
-chosen : (t : Bool) (a b : List Rule) (header : Header) (told : ℕ → ℕ) → (if t then decision a header told else decision b header told) ≡ decision (if t then a else b) header told
-chosen true a b header told = refl
-chosen false a b header told = refl
+chosen : (t : Bool) (a b : List Rule) (header : Header) (reported : ℕ → ℕ) → (if t then decision a header reported else decision b header reported) ≡ decision (if t then a else b) header reported
+chosen true a b header reported = refl
+chosen false a b header reported = refl
 
 pub first_asks : (a b : Bool) → a ≡ true → (a || b) ≡ true
 first_asks true b h = refl
@@ -238,7 +238,7 @@ later_asks false b h = h
 -- at a port, which is on the stack if a rule asks it
 pub rules_decide : (m : Setting) (port slot : ℕ) (rules : List PortRule) → (asks_ports rules ≡ true → m.held ≡ Some port) → All FitsPort rules
     → StandAt m.program slot (rules_code rules) → RulesEnd m slot (rules_at port rules)
-rules_decide m port slot [] held fits code = record { ends = λ told words. verdict_given m slot 10 (omega arith) code }
+rules_decide m port slot [] held fits code = record { ends = λ reported words. verdict_given m slot 10 (omega arith) code }
 rules_decide m port slot (own ∷ rules) held fits code =
     let begins : ℕ = slot + field_slots own.port in
     let end : ℕ = end_of begins own.rule in
@@ -248,12 +248,12 @@ rules_decide m port slot (own ∷ rules) held fits code =
     let later : RulesEnd m end (rules_at port rules) = rules_decide m port end rules (λ asked. held (later_asks (is_some own.port) (asks_ports rules) asked)) (All-tail FitsPort own rules fits) parts.1 in
     let met : RulesEnd m begins (own.rule ∷ rules_at port rules) = rule_decides m begins own.rule (rules_at port rules) own_fits.rule (rule_stands m.program begins own.rule both.1) later in
     record {
-      ends = λ told words.
-          let asked : Decision = decision (own.rule ∷ rules_at port rules) m.header told in
-          let others : Decision = decision (rules_at port rules) m.header told in
+      ends = λ reported words.
+          let asked : Decision = decision (own.rule ∷ rules_at port rules) m.header reported in
+          let others : Decision = decision (rules_at port rules) m.header reported in
           let tested : EndsFrom m slot (if agrees own.port port then asked else others) =
-          port_tested m slot port (rule_slots own.rule) end own.port asked others (λ has. held (first_asks (is_some own.port) (asks_ports rules) has)) both.0 own_fits.port (omega arith) (met.ends told words) (later.ends told words) in
-          subst (λ (d : Decision). EndsFrom m slot d) (chosen (agrees own.port port) (own.rule ∷ rules_at port rules) (rules_at port rules) m.header told) tested;
+          port_tested m slot port (rule_slots own.rule) end own.port asked others (λ has. held (first_asks (is_some own.port) (asks_ports rules) has)) both.0 own_fits.port (omega arith) (met.ends reported words) (later.ends reported words) in
+          subst (λ (d : Decision). EndsFrom m slot d) (chosen (agrees own.port port) (own.rule ∷ rules_at port rules) (rules_at port rules) m.header reported) tested;
     }
 
 -- ---- before the rules
@@ -445,37 +445,37 @@ kept_first m true port d small code rest =
 pub four_parts : (a b c d : List Insn) → a ++ b ++ c ++ d ≡ a ++ (b ++ (c ++ d))
 four_parts a b c d = simp append_assoc
 
-whole_ends : StepPerforms → (rules : List PortRule) (budget : ℕ) → All FitsPort rules → (header : Header) (port : ℕ) (told : ℕ → ℕ) → IsHeader header → port < 32 → AreWords told
-    → Finishes (table_program budget rules) header (entry_state port) (port_decision rules header port told)
-whole_ends performs rules budget fits header port told is_header small words =
+whole_ends : StepPerforms → (rules : List PortRule) (budget : ℕ) → All FitsPort rules → (header : Header) (port : ℕ) (reported : ℕ → ℕ) → IsProgramHeader header → port < 32 → AreAnswerWords reported
+    → Finishes (table_program budget rules) header (entry_state port) (port_decision rules header port reported)
+whole_ends performs rules budget fits header port reported is_header small words =
     let p : Program = table_program budget rules in
     let asked : Bool = asks_ports rules in
     let m : Setting = record { program = p; header = header; held = held_for asked port; performs = λ h s insn here known. performs p h s (subst (λ (o : Option Insn). knows_insn One o ≡ true) (sym here) known) ∙ ap (λ (o : Option Insn). perform_at h s o) here; is_header = is_header } in
-    let d : Decision = port_decision rules header port told in
+    let d : Decision = port_decision rules header port reported in
     let b : ℕ = keep_slots asked in
     let code : StandAt p 0 (table_code rules) = stand p [] (table_code rules) refl in
     let apart : StandAt p 0 (keep_code asked ++ (address_code ++ (last_address_code ++ rules_code rules))) = subst (λ (insns : List Insn). StandAt p 0 insns) (four_parts (keep_code asked) address_code last_address_code (rules_code rules)) code in
     let keep = cut_at p 0 b (keep_code asked) (address_code ++ (last_address_code ++ rules_code rules)) (keep_after asked) apart in
     let one = cut_at p b (at b 5) address_code (last_address_code ++ rules_code rules) refl keep.1 in
     let two = cut_at p (at b 5) (at b 14) last_address_code (rules_code rules) refl one.1 in
-    let there : EndsFrom m (at b 14) d = (rules_decide m port (at b 14) rules (held_where asked port) fits two.1).ends told words in
+    let there : EndsFrom m (at b 14) d = (rules_decide m port (at b 14) rules (held_where asked port) fits two.1).ends reported words in
     kept_first m asked port d small keep.0
     (λ stack keeps. start m b port stack d keeps one.0 (λ registers stands. finish m b registers stack d two.0 stands there))
 
 pub has_meaning : StepPerforms → RunsFromTheFront → AnswersDecide → DrawsAreAnswered → (rules : List PortRule) (budget : ℕ) → All FitsPort rules → HasPortMeaning rules (table_program budget rules)
 has_meaning performs front decide draws rules budget fits =
     let p : Program = table_program budget rules in
-    let run : (header : Header) (port : ℕ) (told : ℕ → ℕ) → IsHeader header → port < 32 → AreWords told
-    → (n : ℕ) × Runs p header port (port_decision rules header port told).0 n (port_decision rules header port told).1 =
-    λ header port told is_header small words.
-    let ends : Finishes p header (entry_state port) (port_decision rules header port told) = whole_ends performs rules budget fits header port told is_header small words in
-    (ends.steps, (front p header port (port_decision rules header port told).0 ends.steps (port_decision rules header port told).1).1 ends.ends) in
+    let run : (header : Header) (port : ℕ) (reported : ℕ → ℕ) → IsProgramHeader header → port < 32 → AreAnswerWords reported
+    → (n : ℕ) × Runs p header port (port_decision rules header port reported).0 n (port_decision rules header port reported).1 =
+    λ header port reported is_header small words.
+    let ends : Finishes p header (entry_state port) (port_decision rules header port reported) = whole_ends performs rules budget fits header port reported is_header small words in
+    (ends.steps, (front p header port (port_decision rules header port reported).0 ends.steps (port_decision rules header port reported).1).1 ends.ends) in
     record {
-      runs = λ header port told is_header small words. run header port told is_header small words;
-      only = λ header port told calls n verdict is_header small words answered other.
-          let mine = run header port told is_header small words in
+      runs = λ header port reported is_header small words. run header port reported is_header small words;
+      only = λ header port reported calls n verdict is_header small words answered other.
+          let mine = run header port reported is_header small words in
           let ends : Ends p header n (entry_state port) calls verdict = (front p header port calls n verdict).0 other in
-          let ours : Ends p header mine.0 (entry_state port) (port_decision rules header port told).0 (port_decision rules header port told).1 = (front p header port (port_decision rules header port told).0 mine.0 (port_decision rules header port told).1).0 mine.1 in
-          let same = decide p header (entry_state port) told n mine.0 calls (port_decision rules header port told).0 verdict (port_decision rules header port told).1 ends ours answered (draws (rules_at port rules) header told) in
+          let ours : Ends p header mine.0 (entry_state port) (port_decision rules header port reported).0 (port_decision rules header port reported).1 = (front p header port (port_decision rules header port reported).0 mine.0 (port_decision rules header port reported).1).0 mine.1 in
+          let same = decide p header (entry_state port) reported n mine.0 calls (port_decision rules header port reported).0 verdict (port_decision rules header port reported).1 ends ours answered (draws (rules_at port rules) header reported) in
           (same.1, same.2);
     }

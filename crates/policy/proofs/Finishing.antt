@@ -78,11 +78,11 @@ pub branched : (program : Program) (header : Header) (slot skipped end : ℕ) (r
     → (t ≡ true → Finishes program header (state end registers stack) d)
     → (t ≡ false → Finishes program header (state (slot + 1) registers stack) d)
     → Finishes program header (state slot registers stack) d
-branched program header slot skipped end registers stack insn d true performs here known done target there behind =
+branched program header slot skipped end registers stack insn d true performs here known done target there following =
     let at_target : Finishes program header (state (slot + 1 + skipped) registers stack) d = subst (λ (k : ℕ). Finishes program header (state k registers stack) d) (sym target) (there refl) in
     next program header (state slot registers stack) (state (slot + 1 + skipped) registers stack) insn d performs here known done at_target
-branched program header slot skipped end registers stack insn d false performs here known done target there behind =
-    next program header (state slot registers stack) (state (slot + 1) registers stack) insn d performs here known done (behind refl)
+branched program header slot skipped end registers stack insn d false performs here known done target there following =
+    next program header (state slot registers stack) (state (slot + 1) registers stack) insn d performs here known done (following refl)
 
 -- ---- at which slots instructions are
 

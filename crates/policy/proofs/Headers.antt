@@ -19,44 +19,44 @@ use Rattle.machine.specs.declared.regions.Region.{Region}
 use Rattle.machine.specs.declared.regions.Region.TheVariants.{Front, Tail}
 use Rattle.machine.specs.declared.values.Value.{Value}
 use Rattle.machine.specs.declared.values.Value.TheVariants.{Unset, Num, Ptr, Map}
-use Rattle.machine.specs.Memory.{Header, IsHeader, byte_below, byte_of, little_endian, place_of}
+use Rattle.machine.specs.Memory.{Header, IsProgramHeader, byte_below, byte_of, little_endian, region_place_of}
 use Rattle.machine.specs.State.{State}
-use Rattle.machine.specs.Step.{alu, bytes_at, load_value, loads}
+use Rattle.machine.specs.Step.{alu, region_bytes_at, load_value, loads}
 use Rattle.machine.specs.Words.{low_part, swapped_bytes, word}
 use Rattle.rmap.specs.Instruction.{has_increment_bit, kind_of}
-use Rattle.policy_table.specs.Meaning.{has_kind}
+use Rattle.policy_table.specs.Meaning.{agrees_with_kind}
 use Rattle.policy_table.specs.declared.rules.RuleKind.TheVariants.{Read, Write, Rmw}
 
 -- ---- bytes
 
-pub front_byte : (header : Header) → IsHeader header → (k : ℕ) → k < 4 → slice_index header.front k < 256
+pub front_byte : (header : Header) → IsProgramHeader header → (k : ℕ) → k < 4 → slice_index header.front k < 256
 front_byte header h k within =
     let len : length header.front ≡ 4 = h.front in
     All-get_or (λ (b : ℕ). b < 256) header.front k 0 (omega (arith, len)) h.front_bytes
 
-pub tail_byte : (header : Header) → IsHeader header → (k : ℕ) → k < 12 → slice_index header.tail k < 256
+pub tail_byte : (header : Header) → IsProgramHeader header → (k : ℕ) → k < 12 → slice_index header.tail k < 256
 tail_byte header h k within =
     let len : length header.tail ≡ 12 = h.tail in
     All-get_or (λ (b : ℕ). b < 256) header.tail k 0 (omega (arith, len)) h.tail_bytes
 
-byte_loaded : (header : Header) (s : State) (region : Region) (offset : ℤ) (place n : ℕ) → place_of region 1 (pos 0 +ℤ offset) ≡ Some place
+byte_loaded : (header : Header) (s : State) (region : Region) (offset : ℤ) (place n : ℕ) → region_place_of region 1 (pos 0 +ℤ offset) ≡ Some place
     → byte_of header s.stack region place ≡ Some n → loads header s LoadByte (Ptr region (pos 0)) offset ≡ Some (Num n)
 unfolding little_endian
 byte_loaded header s region offset place n there byte =
     let one : n + 256 * 0 ≡ n = omega arith in
-    ap (λ (o : Option ℕ). load_value LoadByte (bytes_at header s.stack region 1 o)) there
+    ap (λ (o : Option ℕ). load_value LoadByte (region_bytes_at header s.stack region 1 o)) there
     ∙ ap (λ (o : Option ℕ). load_value LoadByte (byte_below o (Some 0))) byte
     ∙ ap (λ (k : ℕ). Some (Num k)) one
 
 -- a byte of the front, by its place
-pub front_loaded : (header : Header) → IsHeader header → (k : ℕ) → k < 4 → place_of Front 1 (pos 0 +ℤ pos k) ≡ Some k
+pub front_loaded : (header : Header) → IsProgramHeader header → (k : ℕ) → k < 4 → region_place_of Front 1 (pos 0 +ℤ pos k) ≡ Some k
     → (s : State) → loads header s LoadByte (Ptr Front (pos 0)) (pos k) ≡ Some (Num (slice_index header.front k))
 front_loaded header h k within there s =
     let len : length header.front ≡ 4 = h.front in
     byte_loaded header s Front (pos k) k (slice_index header.front k) there (slice_get-get_or header.front k 0 (omega (arith, len)))
 
 -- a byte of the tail
-pub tail_loaded : (header : Header) → IsHeader header → (k : ℕ) → k < 12 → place_of Tail 1 (pos 0 +ℤ pos k) ≡ Some k
+pub tail_loaded : (header : Header) → IsProgramHeader header → (k : ℕ) → k < 12 → region_place_of Tail 1 (pos 0 +ℤ pos k) ≡ Some k
     → (s : State) → loads header s LoadByte (Ptr Tail (pos 0)) (pos k) ≡ Some (Num (slice_index header.tail k))
 tail_loaded header h k within there s =
     let len : length header.tail ≡ 12 = h.tail in
@@ -76,7 +76,7 @@ abbrev four_below : (a b c d : Option ℕ) → Option ℕ
 four_below a b c d = byte_below a (byte_below b (byte_below c (byte_below d (Some 0))))
 
 -- four bytes of the tail from a place
-pub word_loaded : (header : Header) → IsHeader header → (k : ℕ) → k ≤ 8 → place_of Tail 4 (pos 0 +ℤ pos k) ≡ Some k
+pub word_loaded : (header : Header) → IsProgramHeader header → (k : ℕ) → k ≤ 8 → region_place_of Tail 4 (pos 0 +ℤ pos k) ≡ Some k
     → (s : State) → loads header s LoadWord (Ptr Tail (pos 0)) (pos k)
     ≡ Some (Num (low_first (slice_index header.tail k) (slice_index header.tail (suc k)) (slice_index header.tail (suc (suc k))) (slice_index header.tail (suc (suc (suc k))))))
 unfolding little_endian
@@ -93,7 +93,7 @@ word_loaded header h k within there s =
     ∙ ap (λ (o : Option ℕ). four_below (Some (slice_index tail k)) o (slice_get tail (suc (suc k))) (slice_get tail (suc (suc (suc k))))) second
     ∙ ap (λ (o : Option ℕ). four_below (Some (slice_index tail k)) (Some (slice_index tail (suc k))) o (slice_get tail (suc (suc (suc k))))) third
     ∙ ap (λ (o : Option ℕ). four_below (Some (slice_index tail k)) (Some (slice_index tail (suc k))) (Some (slice_index tail (suc (suc k)))) o) fourth in
-    ap (λ (o : Option ℕ). load_value LoadWord (bytes_at header s.stack Tail 4 o)) there
+    ap (λ (o : Option ℕ). load_value LoadWord (region_bytes_at header s.stack Tail 4 o)) there
     ∙ ap (λ (o : Option ℕ). load_value LoadWord o) bytes
 
 -- the bytes in the other order
@@ -113,14 +113,14 @@ big_three xs small =
 
 -- ---- the instruction byte
 
-pub is_read : (byte : ℕ) → byte < 256 → (bit_and byte 248 == 72) ≡ has_kind Read (kind_of byte)
-is_read byte below = agree_below_at (λ b. bit_and b 248 == 72) (λ b. has_kind Read (kind_of b)) 256 byte refl below
+pub is_read : (byte : ℕ) → byte < 256 → (bit_and byte 248 == 72) ≡ agrees_with_kind Read (kind_of byte)
+is_read byte below = agree_below_at (λ b. bit_and b 248 == 72) (λ b. agrees_with_kind Read (kind_of b)) 256 byte refl below
 
-pub is_write : (byte : ℕ) → byte < 256 → (bit_and byte 224 == 96) ≡ has_kind Write (kind_of byte)
-is_write byte below = agree_below_at (λ b. bit_and b 224 == 96) (λ b. has_kind Write (kind_of b)) 256 byte refl below
+pub is_write : (byte : ℕ) → byte < 256 → (bit_and byte 224 == 96) ≡ agrees_with_kind Write (kind_of byte)
+is_write byte below = agree_below_at (λ b. bit_and b 224 == 96) (λ b. agrees_with_kind Write (kind_of b)) 256 byte refl below
 
-pub is_rmw : (byte : ℕ) → byte < 256 → (bit_and byte 252 == 92) ≡ has_kind Rmw (kind_of byte)
-is_rmw byte below = agree_below_at (λ b. bit_and b 252 == 92) (λ b. has_kind Rmw (kind_of b)) 256 byte refl below
+pub is_rmw : (byte : ℕ) → byte < 256 → (bit_and byte 252 == 92) ≡ agrees_with_kind Rmw (kind_of byte)
+is_rmw byte below = agree_below_at (λ b. bit_and b 252 == 92) (λ b. agrees_with_kind Rmw (kind_of b)) 256 byte refl below
 
 pub is_increment : (byte : ℕ) → byte < 256 → (bit_and byte 4 == 0) ≡ not (has_increment_bit byte)
 is_increment byte below = agree_below_at (λ b. bit_and b 4 == 0) (λ b. not (has_increment_bit b)) 256 byte refl below

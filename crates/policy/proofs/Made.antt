@@ -34,10 +34,10 @@ made_justified sizes given all image is limits same holds =
 
 pub plain_meaning : (rules : List Rule) (p : Program) → HasPortMeaning (on_lines 1 rules) p → HasMeaning rules p
 plain_meaning rules p meaning = record {
-  runs = λ header port told is_header small words. rw (sym (lines_at port 1 rules)) (meaning.runs header port told is_header small words);
-  only = λ header port told calls n verdict is_header small words answered runs.
-      rw (sym (lines_at port 1 rules)) (meaning.only header port told calls n verdict is_header small words answered runs);
+  runs = λ header port reported is_header small words. rw (sym (lines_at port 1 rules)) (meaning.runs header port reported is_header small words);
+  only = λ header port reported calls n verdict is_header small words answered runs.
+      rw (sym (lines_at port 1 rules)) (meaning.only header port reported calls n verdict is_header small words answered runs);
 }
 
 pub plain_cells : (sizes : Maps) (rules : List Rule) → HasPortCells sizes (on_lines 1 rules) → HasCells sizes rules
-plain_cells sizes rules cells header told = subst (λ (rs : List Rule). HasCells sizes rs) (lines_at 0 1 rules) (λ own_header own_told. cells own_header 0 own_told) header told
+plain_cells sizes rules cells header reported = subst (λ (rs : List Rule). HasCells sizes rs) (lines_at 0 1 rules) (λ own_header own_reported. cells own_header 0 own_reported) header reported

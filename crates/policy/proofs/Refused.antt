@@ -15,9 +15,9 @@ use Rattle.policy.specs.Compiled.{HasCells, HasPortCells, IsCompileFault, IsOfCo
 use Rattle.policy.specs.Meant.{HaveCells}
 use Rattle.policy_table.specs.FirstFault.{compile_fault, has_cell, quota_fault, rule_fault, rules_fault}
 use Rattle.policy_table.specs.Meaning.{agrees, decision, draw, holds, ruled}
-use Rattle.policy_table.specs.Policies.{PolicyValue, is_before, is_reversed, policy_fault, reversed_told, rule_told, rules_told}
+use Rattle.policy_table.specs.Policies.{PolicyValue, is_before, is_reversed, policy_fault, reversed_fault, placed_rule_fault, placed_rules_fault}
 use Rattle.policy_table.specs.Ports.{at_every_port, on_lines, rules_at}
-use Rattle.policy_table.specs.Room.{first_port_slots, is_too_much, length_from, length_told, room_after, room_left, room_taken, too_many, whole_room}
+use Rattle.policy_table.specs.Room.{first_port_slots, is_too_much, length_from, length_fault, room_after, room_left, room_taken, too_many, whole_room}
 use Rattle.policy_table.specs.Slots.{asks_ports, field_slots, kind_slots, port_rule_slots, port_slots, quota_slots, rules_slots, table_slots}
 use Rattle.policy_table.specs.declared.faults.PolicyFault.{PolicyFault}
 use Rattle.policy_table.specs.declared.faults.PolicyFault.TheVariants.{TooLong, BadRange, Memory, NoCell, BadLine}
@@ -65,15 +65,15 @@ rules_of_table sizes (rule ∷ rules) = first_of_table (rule_fault sizes rule) (
 of_table : (sizes : Maps) (rules : List Rule) → IsOfTable (compile_fault sizes rules)
 of_table sizes rules = either_fault (nat_lt 12 (length rules)) (Some TooLong) (rules_fault sizes rules) tt (rules_of_table sizes rules)
 
-told_of : (first : Option PolicyFault) (fault : PolicyFault) → IsOfTable (Some fault) → first ≡ Some fault → IsCompileFault first fault
-told_of first TooLong of_it is = is
-told_of first BadRange of_it is = is
-told_of first Memory of_it is = absurd of_it
-told_of first NoCell of_it is = is
-told_of first BadLine of_it is = absurd of_it
+reported_of : (first : Option PolicyFault) (fault : PolicyFault) → IsOfTable (Some fault) → first ≡ Some fault → IsCompileFault first fault
+reported_of first TooLong of_it is = is
+reported_of first BadRange of_it is = is
+reported_of first Memory of_it is = absurd of_it
+reported_of first NoCell of_it is = is
+reported_of first BadLine of_it is = absurd of_it
 
-pub is_told : (sizes : Maps) (rules : List Rule) (fault : PolicyFault) → compile_fault sizes rules ≡ Some fault → IsCompileFault (compile_fault sizes rules) fault
-is_told sizes rules fault is = told_of (compile_fault sizes rules) fault (subst (λ (f : Option PolicyFault). IsOfTable f) is (of_table sizes rules)) is
+pub is_reported : (sizes : Maps) (rules : List Rule) (fault : PolicyFault) → compile_fault sizes rules ≡ Some fault → IsCompileFault (compile_fault sizes rules) fault
+is_reported sizes rules fault is = reported_of (compile_fault sizes rules) fault (subst (λ (f : Option PolicyFault). IsOfTable f) is (of_table sizes rules)) is
 
 -- ---- cells
 
@@ -121,23 +121,23 @@ either_inside : (t : Bool) (sizes : Maps) (f g : List Call × ℕ) → AreInside
 either_inside true sizes f g in_f in_g = in_f
 either_inside false sizes f g in_f in_g = in_g
 
-ruled_inside : (sizes : Maps) (quota : Option Quota) (code : ℕ) (told : ℕ → ℕ) (rest : List Call × ℕ) → quota_fault sizes quota ≡ None → AreInside sizes rest.0 → AreInside sizes (ruled quota code told rest).0
-ruled_inside sizes None code told rest none are = All-nil (IsOfCounter sizes)
-ruled_inside sizes (Some quota) code told rest none are =
+ruled_inside : (sizes : Maps) (quota : Option Quota) (code : ℕ) (reported : ℕ → ℕ) (rest : List Call × ℕ) → quota_fault sizes quota ≡ None → AreInside sizes rest.0 → AreInside sizes (ruled quota code reported rest).0
+ruled_inside sizes None code reported rest none are = All-nil (IsOfCounter sizes)
+ruled_inside sizes (Some quota) code reported rest none are =
     let P : Call → Type 0 = IsOfCounter sizes in
-    let first : Call = draw quota (told 0) in
+    let first : Call = draw quota (reported 0) in
     let here : P first = let both = quota_inside sizes quota none in record { inside = both.0; kind = both.1 } in
     let alone : List Call × ℕ = (first ∷ [], code) in
     let more : List Call × ℕ = (first ∷ rest.0, rest.1) in
-    either_inside (nat_lt (told 0) quota.limit) sizes alone more (All-cons P first [] here (All-nil P)) (All-cons P first rest.0 here are)
+    either_inside (nat_lt (reported 0) quota.limit) sizes alone more (All-cons P first [] here (All-nil P)) (All-cons P first rest.0 here are)
 
 -- one rule more
 rule_inside : (sizes : Maps) (rule : Rule) (rules : List Rule) → quota_fault sizes rule.quota ≡ None → HasCells sizes rules → HasCells sizes (rule ∷ rules)
-rule_inside sizes rule rules none others header told =
-    let later : List Call × ℕ = decision rules header (λ k. told (suc k)) in
-    either_inside (holds rule header) sizes (ruled rule.quota (verdict_number rule.verdict) told later) (decision rules header told)
-    (ruled_inside sizes rule.quota (verdict_number rule.verdict) told later none (others header (λ k. told (suc k))))
-    (others header told)
+rule_inside sizes rule rules none others header reported =
+    let later : List Call × ℕ = decision rules header (λ k. reported (suc k)) in
+    either_inside (holds rule header) sizes (ruled rule.quota (verdict_number rule.verdict) reported later) (decision rules header reported)
+    (ruled_inside sizes rule.quota (verdict_number rule.verdict) reported later none (others header (λ k. reported (suc k))))
+    (others header reported)
 
 asked_inside : (t : Bool) (sizes : Maps) (rule : Rule) (rules : List Rule) → quota_fault sizes rule.quota ≡ None → HasCells sizes rules → HasCells sizes (if t then rule ∷ rules else rules)
 asked_inside true sizes rule rules none others = rule_inside sizes rule rules none others
@@ -148,13 +148,13 @@ abbrev IsThere : Maps → PortRule → Type 0
 IsThere sizes own = quota_fault sizes own.rule.quota ≡ None
 
 port_inside : (sizes : Maps) (port : ℕ) (rules : List PortRule) → HaveCells sizes rules → HasCells sizes (rules_at port rules)
-port_inside sizes port [] have = λ header told. All-nil (IsOfCounter sizes)
+port_inside sizes port [] have = λ header reported. All-nil (IsOfCounter sizes)
 port_inside sizes port (own ∷ rules) have =
     asked_inside (agrees own.port port) sizes own.rule (rules_at port rules) (All-head (IsThere sizes) own rules have)
     (port_inside sizes port rules (All-tail (IsThere sizes) own rules have))
 
 pub port_cells : (sizes : Maps) (rules : List PortRule) → HaveCells sizes rules → HasPortCells sizes rules
-port_cells sizes rules have header port told = port_inside sizes port rules have header told
+port_cells sizes rules have header port reported = port_inside sizes port rules have header reported
 
 -- the rules of a table without a fault have none
 pub no_rules_fault : (sizes : Maps) (rules : List Rule) → compile_fault sizes rules ≡ None → rules_fault sizes rules ≡ None
@@ -180,9 +180,9 @@ few sizes rules none = ltb-false 12 (length rules) (not_long (nat_lt 12 (length 
 
 -- ---- tables of either version
 
-fault_behind : (t : Bool) (fault : TextFault) (rest : Option TextFault) → (if t then Some fault else rest) ≡ None → rest ≡ None
-fault_behind true fault rest is = cc
-fault_behind false fault rest is = is
+fault_after : (t : Bool) (fault : TextFault) (rest : Option TextFault) → (if t then Some fault else rest) ≡ None → rest ≡ None
+fault_after true fault rest is = cc
+fault_after false fault rest is = is
 
 first_none : (f g : Option TextFault) → option_or f g ≡ None → f ≡ None
 first_none None g is = refl
@@ -196,26 +196,26 @@ line_none : (line : ℕ) (named : Bool) (o : Option PolicyFault) → option_map 
 line_none line named None is = refl
 line_none line named (Some fault) is = cc
 
-rule_there : (sizes : Maps) (own : PortRule) → rule_told sizes own ≡ None → quota_fault sizes own.rule.quota ≡ None
+rule_there : (sizes : Maps) (own : PortRule) → placed_rule_fault sizes own ≡ None → quota_fault sizes own.rule.quota ≡ None
 rule_there sizes own none =
     line_none own.line own.named (quota_fault sizes own.rule.quota)
-    (fault_behind (is_reversed own) (Line own.line lines.RuleOrder) (option_map (λ _. Line own.line (lines.NoCell own.named)) (quota_fault sizes own.rule.quota)) none)
+    (fault_after (is_reversed own) (Line own.line lines.RuleOrder) (option_map (λ _. Line own.line (lines.NoCell own.named)) (quota_fault sizes own.rule.quota)) none)
 
-range_behind : (reversed : Option ℕ) (line : ℕ) (rest : Option TextFault) → (if is_before reversed line then reversed_told reversed else rest) ≡ None → rest ≡ None
-range_behind None line rest is = is
-range_behind (Some at) line rest is = fault_behind (nat_lt at line) (Line at lines.RangeOrder) rest is
+range_then : (reversed : Option ℕ) (line : ℕ) (rest : Option TextFault) → (if is_before reversed line then reversed_fault reversed else rest) ≡ None → rest ≡ None
+range_then None line rest is = is
+range_then (Some at) line rest is = fault_after (nat_lt at line) (Line at lines.RangeOrder) rest is
 
-told_have : (sizes : Maps) (reversed : Option ℕ) (rules : List PortRule) → rules_told sizes reversed rules ≡ None → HaveCells sizes rules
-told_have sizes reversed [] none = All-nil (IsThere sizes)
-told_have sizes reversed (own ∷ rules) none =
-    let both : option_or (rule_told sizes own) (rules_told sizes reversed rules) ≡ None = range_behind reversed own.line (option_or (rule_told sizes own) (rules_told sizes reversed rules)) none in
-    All-cons (IsThere sizes) own rules (rule_there sizes own (first_none (rule_told sizes own) (rules_told sizes reversed rules) both))
-    (told_have sizes reversed rules (second_none (rule_told sizes own) (rules_told sizes reversed rules) both))
+reported_have : (sizes : Maps) (reversed : Option ℕ) (rules : List PortRule) → placed_rules_fault sizes reversed rules ≡ None → HaveCells sizes rules
+reported_have sizes reversed [] none = All-nil (IsThere sizes)
+reported_have sizes reversed (own ∷ rules) none =
+    let both : option_or (placed_rule_fault sizes own) (placed_rules_fault sizes reversed rules) ≡ None = range_then reversed own.line (option_or (placed_rule_fault sizes own) (placed_rules_fault sizes reversed rules)) none in
+    All-cons (IsThere sizes) own rules (rule_there sizes own (first_none (placed_rule_fault sizes own) (placed_rules_fault sizes reversed rules) both))
+    (reported_have sizes reversed rules (second_none (placed_rule_fault sizes own) (placed_rules_fault sizes reversed rules) both))
 
 -- the maps have the cells of a table without a fault
 pub policy_cells : (sizes : Maps) (policy : PolicyValue) → policy_fault sizes policy ≡ None → HaveCells sizes policy.rules
 policy_cells sizes policy none =
-    told_have sizes policy.reversed policy.rules (second_none (length_told policy.version policy.rules) (rules_told sizes policy.reversed policy.rules) none)
+    reported_have sizes policy.reversed policy.rules (second_none (length_fault policy.version policy.rules) (placed_rules_fault sizes policy.reversed policy.rules) none)
 
 -- ---- room
 
@@ -290,7 +290,7 @@ twos_fit (own ∷ rules) r none =
     let fit : port_wanted (r.asks || is_some own.port) (asks_ports rules) + rules_slots rules ≤ r.left - (first_port_slots r.asks own.port + port_rule_slots own) = twos_fit rules (room_left Two r own) rest in
     omega (arith, taken, first, fit)
 
-version_fits : (version : TableVersion) (rules : List PortRule) → length_told version rules ≡ None → table_slots rules ≤ 512
+version_fits : (version : TableVersion) (rules : List PortRule) → length_fault version rules ≡ None → table_slots rules ≤ 512
 version_fits One rules none = few_fit rules (ones_fit rules (whole_room One) none)
 version_fits Two rules none =
     let fit : port_slots rules + rules_slots rules ≤ 496 = twos_fit rules (whole_room Two) none in
@@ -299,7 +299,7 @@ version_fits Two rules none =
 -- and so does a table without a fault
 pub policy_fits : (sizes : Maps) (policy : PolicyValue) → policy_fault sizes policy ≡ None → table_slots policy.rules ≤ 512
 policy_fits sizes policy none =
-    version_fits policy.version policy.rules (first_none (length_told policy.version policy.rules) (rules_told sizes policy.reversed policy.rules) none)
+    version_fits policy.version policy.rules (first_none (length_fault policy.version policy.rules) (placed_rules_fault sizes policy.reversed policy.rules) none)
 
 lines_long : (line : ℕ) (rules : List Rule) → length (on_lines line rules) ≡ length rules
 lines_long line [] = refl

@@ -18,7 +18,7 @@ use Rattle.machine.specs.declared.regions.Region.{Region}
 use Rattle.machine.specs.declared.regions.Region.TheVariants.{Front, Tail, Stack}
 use Rattle.machine.specs.declared.values.Value.{Value}
 use Rattle.machine.specs.declared.values.Value.TheVariants.{Num, Ptr, Map}
-use Rattle.machine.specs.Memory.{Header, IsHeader, byte_below, little_endian}
+use Rattle.machine.specs.Memory.{Header, IsProgramHeader, byte_below, little_endian}
 use Rattle.machine.specs.State.{State, state, register_after, register_after_call}
 use Rattle.machine.specs.Step.{Next, Trap, after_answer, branches, compares, load_value, loads, perform, question, writes}
 use Rattle.machine.specs.Words.{word}
@@ -26,7 +26,7 @@ use Rattle.rmap.specs.Command.{address_of, command_kind}
 use Rattle.policy.specs.Code.{applied, field_slots, field_test, kind_slots, kind_test, loaded, masked_test, port_loaded, port_test, quota_slots, quota_test, range_test, set_to, set_to_bits, skips_if, verdict_code}
 use Rattle.policy_table.specs.Limits.{IsByteField, IsLimited}
 use Rattle.policy_table.specs.Ports.{IsPortField}
-use Rattle.policy_table.specs.Meaning.{agrees, draw, fields_of, has_kind, last_address_of, lies_between, ruled}
+use Rattle.policy_table.specs.Meaning.{agrees, draw, fields_of, agrees_with_kind, last_address_of, lies_between, ruled}
 use Rattle.policy_table.specs.declared.rules.Quota.{Quota}
 use Rattle.policy_table.specs.declared.rules.RuleKind.{RuleKind}
 use Rattle.policy_table.specs.declared.rules.RuleKind.TheVariants.{Read, Write, Rmw, Any}
@@ -39,7 +39,7 @@ pub record Setting : Type 0 where
   pub header : Header
   pub held : Option ℕ
   pub performs : Performs program
-  pub is_header : IsHeader header
+  pub is_header : IsProgramHeader header
 
 -- the port is on the last byte of the stack, if it is kept there
 abbrev pub Keeps : (held : Option ℕ) → (stack : ℕ → Option ℕ) → Type 0
@@ -85,9 +85,9 @@ turned : (m : Setting) (slot skipped end : ℕ) (registers : ℕ → Value) (sta
     → perform m.header (state slot registers stack) insn ≡ branches (state slot registers stack) (pos skipped) (not holds)
     → slot + 1 + skipped ≡ end → StandsOn m registers stack → EndsFrom m (slot + 1) met → EndsFrom m end unmet
     → Finishes m.program m.header (state slot registers stack) (if holds then met else unmet)
-turned m slot skipped end registers stack insn met unmet true here known done target stands behind there =
-    next m.program m.header (state slot registers stack) (state (slot + 1) registers stack) insn met m.performs here known done (behind.from registers stack stands)
-turned m slot skipped end registers stack insn met unmet false here known done target stands behind there =
+turned m slot skipped end registers stack insn met unmet true here known done target stands following there =
+    next m.program m.header (state slot registers stack) (state (slot + 1) registers stack) insn met m.performs here known done (following.from registers stack stands)
+turned m slot skipped end registers stack insn met unmet false here known done target stands following there =
     let back : EndsFrom m (slot + 1 + skipped) unmet = from_slot m end (slot + 1 + skipped) unmet (sym target) there in
     next m.program m.header (state slot registers stack) (state (slot + 1 + skipped) registers stack) insn unmet m.performs here known done (back.from registers stack stands)
 
@@ -117,33 +117,33 @@ loaded_next m slot base offset byte registers stack d found here stands rest =
     ∙ ap (λ (o : Option Value). writes s (slot + 1) 0 o) (found.gives s) in
     next m.program m.header s (state (slot + 1) (register_after registers 0 (Num byte)) stack) (loaded LoadByte 0 base offset) d m.performs here refl done rest
 
-compared : (m : Setting) (slot base offset byte wanted behind end : ℕ) (met unmet : Decision) → Finds m base offset byte
-    → StandAt m.program slot (field_test (Some wanted) base offset behind) → wanted < 256
-    → slot + 2 + behind ≡ end → EndsFrom m (slot + 2) met → EndsFrom m end unmet → EndsFrom m slot (if byte == wanted then met else unmet)
-compared m slot base offset byte wanted behind end met unmet found code small target rest there = record {
+compared : (m : Setting) (slot base offset byte wanted following end : ℕ) (met unmet : Decision) → Finds m base offset byte
+    → StandAt m.program slot (field_test (Some wanted) base offset following) → wanted < 256
+    → slot + 2 + following ≡ end → EndsFrom m (slot + 2) met → EndsFrom m end unmet → EndsFrom m slot (if byte == wanted then met else unmet)
+compared m slot base offset byte wanted following end met unmet found code small target rest there = record {
   from = λ registers stack stands.
       let after : ℕ → Value = register_after registers 0 (Num byte) in
       let s : State = state (slot + 1) after stack in
-      let jump : Insn = skips_if NotEqual 0 (Immediate (pos wanted)) behind in
+      let jump : Insn = skips_if NotEqual 0 (Immediate (pos wanted)) following in
       let same : word (pos wanted) ≡ wanted = same_word wanted (omega arith) in
-      let done : perform m.header s jump ≡ branches s (pos behind) (not (byte == wanted)) =
-      ap (λ (k : ℕ). branches s (pos behind) (not (byte == k))) same in
+      let done : perform m.header s jump ≡ branches s (pos following) (not (byte == wanted)) =
+      ap (λ (k : ℕ). branches s (pos following) (not (byte == k))) same in
       let two : slot + 2 ≡ slot + 1 + 1 = omega arith in
-      let aim : slot + 1 + 1 + behind ≡ end = omega (arith, target) in
+      let aim : slot + 1 + 1 + following ≡ end = omega (arith, target) in
       let on : EndsFrom m (slot + 1 + 1) met = from_slot m (slot + 2) (slot + 1 + 1) met two rest in
       loaded_next m slot base offset byte registers stack (if byte == wanted then met else unmet) found code.0 stands
-      (turned m (slot + 1) behind end after stack jump met unmet (byte == wanted) code.1.0 refl done aim (kept _ _ _ registers stack (Num byte) stands) on there);
+      (turned m (slot + 1) following end after stack jump met unmet (byte == wanted) code.1.0 refl done aim (kept _ _ _ registers stack (Num byte) stands) on there);
 }
 
 -- a field
-pub field_tested : (m : Setting) (slot base offset byte behind end : ℕ) (field : Option ℕ) (met unmet : Decision) → Finds m base offset byte
-    → StandAt m.program slot (field_test field base offset behind) → IsByteField field
-    → slot + field_slots field + behind ≡ end → EndsFrom m (slot + field_slots field) met → EndsFrom m end unmet
+pub field_tested : (m : Setting) (slot base offset byte following end : ℕ) (field : Option ℕ) (met unmet : Decision) → Finds m base offset byte
+    → StandAt m.program slot (field_test field base offset following) → IsByteField field
+    → slot + field_slots field + following ≡ end → EndsFrom m (slot + field_slots field) met → EndsFrom m end unmet
     → EndsFrom m slot (if agrees field byte then met else unmet)
-field_tested m slot base offset byte behind end None met unmet found code small target rest there =
+field_tested m slot base offset byte following end None met unmet found code small target rest there =
     from_slot m (slot + 0) slot met (omega arith) rest
-field_tested m slot base offset byte behind end (Some wanted) met unmet found code small target rest there =
-    compared m slot base offset byte wanted behind end met unmet found code small target rest there
+field_tested m slot base offset byte following end (Some wanted) met unmet found code small target rest there =
+    compared m slot base offset byte wanted following end met unmet found code small target rest there
 
 -- ---- the port
 
@@ -166,40 +166,40 @@ port_next m slot port registers stack d held here stands rest =
     ∙ ap (λ (o : Option Value). writes s (slot + 1) 0 o) (port_load m.header s port keeps) in
     next m.program m.header s (state (slot + 1) (register_after registers 0 (Num port)) stack) port_loaded d m.performs here refl done rest
 
-port_compared : (m : Setting) (slot port wanted behind end : ℕ) (met unmet : Decision) → m.held ≡ Some port
-    → StandAt m.program slot (port_test (Some wanted) behind) → wanted < 32
-    → slot + 2 + behind ≡ end → EndsFrom m (slot + 2) met → EndsFrom m end unmet → EndsFrom m slot (if port == wanted then met else unmet)
-port_compared m slot port wanted behind end met unmet held code small target rest there = record {
+port_compared : (m : Setting) (slot port wanted following end : ℕ) (met unmet : Decision) → m.held ≡ Some port
+    → StandAt m.program slot (port_test (Some wanted) following) → wanted < 32
+    → slot + 2 + following ≡ end → EndsFrom m (slot + 2) met → EndsFrom m end unmet → EndsFrom m slot (if port == wanted then met else unmet)
+port_compared m slot port wanted following end met unmet held code small target rest there = record {
   from = λ registers stack stands.
       let after : ℕ → Value = register_after registers 0 (Num port) in
       let s : State = state (slot + 1) after stack in
-      let jump : Insn = skips_if NotEqual 0 (Immediate (pos wanted)) behind in
+      let jump : Insn = skips_if NotEqual 0 (Immediate (pos wanted)) following in
       let same : word (pos wanted) ≡ wanted = same_word wanted (omega arith) in
-      let done : perform m.header s jump ≡ branches s (pos behind) (not (port == wanted)) =
-      ap (λ (k : ℕ). branches s (pos behind) (not (port == k))) same in
+      let done : perform m.header s jump ≡ branches s (pos following) (not (port == wanted)) =
+      ap (λ (k : ℕ). branches s (pos following) (not (port == k))) same in
       let two : slot + 2 ≡ slot + 1 + 1 = omega arith in
-      let aim : slot + 1 + 1 + behind ≡ end = omega (arith, target) in
+      let aim : slot + 1 + 1 + following ≡ end = omega (arith, target) in
       let on : EndsFrom m (slot + 1 + 1) met = from_slot m (slot + 2) (slot + 1 + 1) met two rest in
       port_next m slot port registers stack (if port == wanted then met else unmet) held code.0 stands
-      (turned m (slot + 1) behind end after stack jump met unmet (port == wanted) code.1.0 refl done aim (kept _ _ _ registers stack (Num port) stands) on there);
+      (turned m (slot + 1) following end after stack jump met unmet (port == wanted) code.1.0 refl done aim (kept _ _ _ registers stack (Num port) stands) on there);
 }
 
 -- the test of a rule's port, which is kept if there is one
-pub port_tested : (m : Setting) (slot port behind end : ℕ) (field : Option ℕ) (met unmet : Decision) → (is_some field ≡ true → m.held ≡ Some port)
-    → StandAt m.program slot (port_test field behind) → IsPortField field
-    → slot + field_slots field + behind ≡ end → EndsFrom m (slot + field_slots field) met → EndsFrom m end unmet
+pub port_tested : (m : Setting) (slot port following end : ℕ) (field : Option ℕ) (met unmet : Decision) → (is_some field ≡ true → m.held ≡ Some port)
+    → StandAt m.program slot (port_test field following) → IsPortField field
+    → slot + field_slots field + following ≡ end → EndsFrom m (slot + field_slots field) met → EndsFrom m end unmet
     → EndsFrom m slot (if agrees field port then met else unmet)
-port_tested m slot port behind end None met unmet held code small target rest there =
+port_tested m slot port following end None met unmet held code small target rest there =
     from_slot m (slot + 0) slot met (omega arith) rest
-port_tested m slot port behind end (Some wanted) met unmet held code small target rest there =
-    port_compared m slot port wanted behind end met unmet (held refl) code small target rest there
+port_tested m slot port following end (Some wanted) met unmet held code small target rest there =
+    port_compared m slot port wanted following end met unmet (held refl) code small target rest there
 
 -- ---- the kind
 
-masked : (m : Setting) (slot mask wanted behind end : ℕ) (holds : Bool) (met unmet : Decision) → StandAt m.program slot (masked_test mask wanted behind)
+masked : (m : Setting) (slot mask wanted following end : ℕ) (holds : Bool) (met unmet : Decision) → StandAt m.program slot (masked_test mask wanted following)
     → word (pos mask) ≡ mask → word (pos wanted) ≡ wanted → (bit_and (slice_index m.header.front 2) mask == wanted) ≡ holds
-    → slot + 3 + behind ≡ end → EndsFrom m (slot + 3) met → EndsFrom m end unmet → EndsFrom m slot (if holds then met else unmet)
-masked m slot mask wanted behind end holds met unmet code mask_fits wanted_fits is target rest there = record {
+    → slot + 3 + following ≡ end → EndsFrom m (slot + 3) met → EndsFrom m end unmet → EndsFrom m slot (if holds then met else unmet)
+masked m slot mask wanted following end holds met unmet code mask_fits wanted_fits is target rest there = record {
   from = λ registers stack stands.
       let byte : ℕ = slice_index m.header.front 2 in
       let found : Finds m 6 2 byte = in_front m 2 byte (front_loaded m.header m.is_header 2 (omega arith) refl) in
@@ -208,32 +208,32 @@ masked m slot mask wanted behind end holds met unmet code mask_fits wanted_fits 
       let two : ℕ → Value = register_after one 0 (Num (bit_and byte mask)) in
       let s : State = state (slot + 1) one stack in
       let t : State = state (slot + 1 + 1) two stack in
-      let jump : Insn = skips_if NotEqual 0 (Immediate (pos wanted)) behind in
+      let jump : Insn = skips_if NotEqual 0 (Immediate (pos wanted)) following in
       let cut : perform m.header s (applied And 0 (Immediate (pos mask))) ≡ Next t =
       ap (λ (k : ℕ). writes s (slot + 1 + 1) 0 (Some (Num (bit_and byte k)))) mask_fits in
-      let done : perform m.header t jump ≡ branches t (pos behind) (not holds) =
-      ap (λ (k : ℕ). branches t (pos behind) (not (bit_and byte mask == k))) wanted_fits ∙ ap (λ (b : Bool). branches t (pos behind) (not b)) is in
+      let done : perform m.header t jump ≡ branches t (pos following) (not holds) =
+      ap (λ (k : ℕ). branches t (pos following) (not (bit_and byte mask == k))) wanted_fits ∙ ap (λ (b : Bool). branches t (pos following) (not b)) is in
       let three : slot + 3 ≡ slot + 1 + 1 + 1 = omega arith in
-      let aim : slot + 1 + 1 + 1 + behind ≡ end = omega (arith, target) in
+      let aim : slot + 1 + 1 + 1 + following ≡ end = omega (arith, target) in
       let on : EndsFrom m (slot + 1 + 1 + 1) met = from_slot m (slot + 3) (slot + 1 + 1 + 1) met three rest in
       let stand_one : StandsOn m one stack = kept _ _ _ registers stack (Num byte) stands in
       let stand_two : StandsOn m two stack = kept _ _ _ one stack (Num (bit_and byte mask)) stand_one in
       loaded_next m slot 6 2 byte registers stack d found code.0 stands
       (next m.program m.header s t (applied And 0 (Immediate (pos mask))) d m.performs code.1.0 refl cut
-      (turned m (slot + 1 + 1) behind end two stack jump met unmet holds code.1.1.0 refl done aim stand_two on there));
+      (turned m (slot + 1 + 1) following end two stack jump met unmet holds code.1.1.0 refl done aim stand_two on there));
 }
 
 -- the test of what the command asks for
-pub kind_tested : (m : Setting) (slot behind end : ℕ) (kind : RuleKind) (met unmet : Decision) → StandAt m.program slot (kind_test kind behind)
-    → slot + kind_slots kind + behind ≡ end → EndsFrom m (slot + kind_slots kind) met → EndsFrom m end unmet
-    → EndsFrom m slot (if has_kind kind (command_kind (fields_of m.header)) then met else unmet)
-kind_tested m slot behind end Any met unmet code target rest there = from_slot m (slot + 0) slot met (omega arith) rest
-kind_tested m slot behind end Read met unmet code target rest there =
-    masked m slot 248 72 behind end (has_kind Read (command_kind (fields_of m.header))) met unmet code refl refl (is_read _ (front_byte m.header m.is_header 2 (omega arith))) target rest there
-kind_tested m slot behind end Write met unmet code target rest there =
-    masked m slot 224 96 behind end (has_kind Write (command_kind (fields_of m.header))) met unmet code refl refl (is_write _ (front_byte m.header m.is_header 2 (omega arith))) target rest there
-kind_tested m slot behind end Rmw met unmet code target rest there =
-    masked m slot 252 92 behind end (has_kind Rmw (command_kind (fields_of m.header))) met unmet code refl refl (is_rmw _ (front_byte m.header m.is_header 2 (omega arith))) target rest there
+pub kind_tested : (m : Setting) (slot following end : ℕ) (kind : RuleKind) (met unmet : Decision) → StandAt m.program slot (kind_test kind following)
+    → slot + kind_slots kind + following ≡ end → EndsFrom m (slot + kind_slots kind) met → EndsFrom m end unmet
+    → EndsFrom m slot (if agrees_with_kind kind (command_kind (fields_of m.header)) then met else unmet)
+kind_tested m slot following end Any met unmet code target rest there = from_slot m (slot + 0) slot met (omega arith) rest
+kind_tested m slot following end Read met unmet code target rest there =
+    masked m slot 248 72 following end (agrees_with_kind Read (command_kind (fields_of m.header))) met unmet code refl refl (is_read _ (front_byte m.header m.is_header 2 (omega arith))) target rest there
+kind_tested m slot following end Write met unmet code target rest there =
+    masked m slot 224 96 following end (agrees_with_kind Write (command_kind (fields_of m.header))) met unmet code refl refl (is_write _ (front_byte m.header m.is_header 2 (omega arith))) target rest there
+kind_tested m slot following end Rmw met unmet code target rest there =
+    masked m slot 252 92 following end (agrees_with_kind Rmw (command_kind (fields_of m.header))) met unmet code refl refl (is_rmw _ (front_byte m.header m.is_header 2 (omega arith))) target rest there
 
 -- ---- the range
 
@@ -252,52 +252,52 @@ end_next m slot n registers stack d small here rest =
     ap (λ (o : Option Value). writes s (slot + 1) 0 o) (bits_moved (registers 0) n small) in
     next m.program m.header s (state (slot + 1) (register_after registers 0 (Num n)) stack) (set_to_bits 0 n) d m.performs here refl done rest
 
-low_tested : (m : Setting) (slot low behind end : ℕ) (met unmet : Decision) → low < 2 ^ 32
-    → insn_at m.program slot ≡ Some (set_to_bits 0 low) → insn_at m.program (slot + 1) ≡ Some (skips_if Less 8 (FromRegister 0) behind)
-    → slot + 1 + 1 + behind ≡ end → EndsFrom m (slot + 1 + 1) met → EndsFrom m end unmet
+low_tested : (m : Setting) (slot low following end : ℕ) (met unmet : Decision) → low < 2 ^ 32
+    → insn_at m.program slot ≡ Some (set_to_bits 0 low) → insn_at m.program (slot + 1) ≡ Some (skips_if Less 8 (FromRegister 0) following)
+    → slot + 1 + 1 + following ≡ end → EndsFrom m (slot + 1 + 1) met → EndsFrom m end unmet
     → EndsFrom m slot (if nat_le low (address_of (fields_of m.header)) then met else unmet)
-low_tested m slot low behind end met unmet small first second target rest there = record {
+low_tested m slot low following end met unmet small first second target rest there = record {
   from = λ registers stack stands.
       let address : ℕ = address_of (fields_of m.header) in
       let after : ℕ → Value = register_after registers 0 (Num low) in
       let s : State = state (slot + 1) after stack in
-      let done : perform m.header s (skips_if Less 8 (FromRegister 0) behind) ≡ branches s (pos behind) (not (nat_le low address)) =
-      ap (λ (v : Value). compares Less Bits64 s (pos behind) v (Num low)) stands.first_address
-      ∙ ap (λ (b : Bool). branches s (pos behind) b) (below_fails address low) in
+      let done : perform m.header s (skips_if Less 8 (FromRegister 0) following) ≡ branches s (pos following) (not (nat_le low address)) =
+      ap (λ (v : Value). compares Less Bits64 s (pos following) v (Num low)) stands.first_address
+      ∙ ap (λ (b : Bool). branches s (pos following) b) (below_fails address low) in
       end_next m slot low registers stack (if nat_le low address then met else unmet) small first
-      (turned m (slot + 1) behind end after stack (skips_if Less 8 (FromRegister 0) behind) met unmet (nat_le low address) second refl done target (kept _ _ _ registers stack (Num low) stands) rest there);
+      (turned m (slot + 1) following end after stack (skips_if Less 8 (FromRegister 0) following) met unmet (nat_le low address) second refl done target (kept _ _ _ registers stack (Num low) stands) rest there);
 }
 
-high_tested : (m : Setting) (slot high behind end : ℕ) (met unmet : Decision) → high < 2 ^ 32
-    → insn_at m.program slot ≡ Some (set_to_bits 0 high) → insn_at m.program (slot + 1) ≡ Some (skips_if Greater 9 (FromRegister 0) behind)
-    → slot + 1 + 1 + behind ≡ end → EndsFrom m (slot + 1 + 1) met → EndsFrom m end unmet
+high_tested : (m : Setting) (slot high following end : ℕ) (met unmet : Decision) → high < 2 ^ 32
+    → insn_at m.program slot ≡ Some (set_to_bits 0 high) → insn_at m.program (slot + 1) ≡ Some (skips_if Greater 9 (FromRegister 0) following)
+    → slot + 1 + 1 + following ≡ end → EndsFrom m (slot + 1 + 1) met → EndsFrom m end unmet
     → EndsFrom m slot (if nat_le (last_address_of (fields_of m.header)) high then met else unmet)
-high_tested m slot high behind end met unmet small first second target rest there = record {
+high_tested m slot high following end met unmet small first second target rest there = record {
   from = λ registers stack stands.
       let last : ℕ = last_address_of (fields_of m.header) in
       let after : ℕ → Value = register_after registers 0 (Num high) in
       let s : State = state (slot + 1) after stack in
-      let done : perform m.header s (skips_if Greater 9 (FromRegister 0) behind) ≡ branches s (pos behind) (not (nat_le last high)) =
-      ap (λ (v : Value). compares Greater Bits64 s (pos behind) v (Num high)) stands.last_address
-      ∙ ap (λ (b : Bool). branches s (pos behind) b) (below_fails high last) in
+      let done : perform m.header s (skips_if Greater 9 (FromRegister 0) following) ≡ branches s (pos following) (not (nat_le last high)) =
+      ap (λ (v : Value). compares Greater Bits64 s (pos following) v (Num high)) stands.last_address
+      ∙ ap (λ (b : Bool). branches s (pos following) b) (below_fails high last) in
       end_next m slot high registers stack (if nat_le last high then met else unmet) small first
-      (turned m (slot + 1) behind end after stack (skips_if Greater 9 (FromRegister 0) behind) met unmet (nat_le last high) second refl done target (kept _ _ _ registers stack (Num high) stands) rest there);
+      (turned m (slot + 1) following end after stack (skips_if Greater 9 (FromRegister 0) following) met unmet (nat_le last high) second refl done target (kept _ _ _ registers stack (Num high) stands) rest there);
 }
 
 -- the range of the addresses
-pub range_tested : (m : Setting) (slot low high behind end : ℕ) (met unmet : Decision) → low < 2 ^ 32 → high < 2 ^ 32
-    → StandAt m.program slot (range_test low high behind)
-    → slot + 4 + behind ≡ end → EndsFrom m (slot + 4) met → EndsFrom m end unmet
+pub range_tested : (m : Setting) (slot low high following end : ℕ) (met unmet : Decision) → low < 2 ^ 32 → high < 2 ^ 32
+    → StandAt m.program slot (range_test low high following)
+    → slot + 4 + following ≡ end → EndsFrom m (slot + 4) met → EndsFrom m end unmet
     → EndsFrom m slot (if lies_between low high (fields_of m.header) then met else unmet)
-range_tested m slot low high behind end met unmet low_fits high_fits code target rest there =
+range_tested m slot low high following end met unmet low_fits high_fits code target rest there =
     let above : Bool = nat_le low (address_of (fields_of m.header)) in
     let below : Bool = nat_le (last_address_of (fields_of m.header)) high in
     let four : slot + 4 ≡ slot + 1 + 1 + 1 + 1 = omega arith in
-    let far : slot + 1 + 1 + (behind + 2) ≡ end = omega (arith, target) in
-    let near : slot + 1 + 1 + 1 + 1 + behind ≡ end = omega (arith, target) in
+    let far : slot + 1 + 1 + (following + 2) ≡ end = omega (arith, target) in
+    let near : slot + 1 + 1 + 1 + 1 + following ≡ end = omega (arith, target) in
     let on : EndsFrom m (slot + 1 + 1 + 1 + 1) met = from_slot m (slot + 4) (slot + 1 + 1 + 1 + 1) met four rest in
-    let second : EndsFrom m (slot + 1 + 1) (if below then met else unmet) = high_tested m (slot + 1 + 1) high behind end met unmet high_fits code.1.1.0 code.1.1.1.0 near on there in
-    let first : EndsFrom m slot (if above then (if below then met else unmet) else unmet) = low_tested m slot low (behind + 2) end (if below then met else unmet) unmet low_fits code.0 code.1.0 far second there in
+    let second : EndsFrom m (slot + 1 + 1) (if below then met else unmet) = high_tested m (slot + 1 + 1) high following end met unmet high_fits code.1.1.0 code.1.1.1.0 near on there in
+    let first : EndsFrom m slot (if above then (if below then met else unmet) else unmet) = low_tested m slot low (following + 2) end (if below then met else unmet) unmet low_fits code.0 code.1.0 far second there in
     subst (λ (d : Decision). EndsFrom m slot d) (both above below met unmet) first
 
 -- ---- the quota
@@ -326,7 +326,7 @@ drawn_first false c met unmet = refl
 drawn : (m : Setting) (slot end code answer : ℕ) (quota : Quota) (rest : Decision) → answer < 2 ^ 64 → IsLimited (Some quota)
     → StandAt m.program slot (quota_test (Some quota) 2) → slot + 5 + 2 ≡ end → EndsFrom m (slot + 5) ([], code) → EndsFrom m end rest
     → EndsFrom m slot (if nat_lt answer quota.limit then (draw quota answer ∷ [], code) else (draw quota answer ∷ rest.0, rest.1))
-drawn m slot end code answer quota rest small limited insns target behind there = record {
+drawn m slot end code answer quota rest small limited insns target following there = record {
   from = λ registers stack stands.
       let holds : Bool = nat_lt answer quota.limit in
       let d : Decision = if holds then ([], code) else rest in
@@ -346,7 +346,7 @@ drawn m slot end code answer quota rest small limited insns target behind there 
       ap (λ (k : ℕ). branches v (pos 2) (nat_le k answer)) same ∙ ap (λ (b : Bool). branches v (pos 2) b) (reach_fails quota.limit answer) in
       let five : slot + 5 ≡ slot + 2 + 1 + 1 + 1 = omega arith in
       let aim : slot + 2 + 1 + 1 + 1 + 2 ≡ end = omega (arith, target) in
-      let on : EndsFrom m (slot + 2 + 1 + 1 + 1) ([], code) = from_slot m (slot + 5) (slot + 2 + 1 + 1 + 1) ([], code) five behind in
+      let on : EndsFrom m (slot + 2 + 1 + 1 + 1) ([], code) = from_slot m (slot + 5) (slot + 2 + 1 + 1 + 1) ([], code) five following in
       let stand_three : StandsOn m three stack = record { front = stands.front; tail = stands.tail; first_address = stands.first_address; last_address = stands.last_address; frame = stands.frame; port = stands.port } in
       let last : Finishes m.program m.header v d = turned m (slot + 2 + 1 + 1) 2 end three stack jump ([], code) rest holds insns.1.1.1.0 refl done aim stand_three on there in
       let call_done : Finishes m.program m.header u whole = asked m.program m.header u (question Ticket quota.map quota.cell 0) (after_answer u) (Call callees.Helper (pos (helper_number Ticket))) answer d m.performs insns.1.1.0 refl refl small last in
@@ -356,13 +356,13 @@ drawn m slot end code answer quota rest small limited insns target behind there 
 }
 
 -- a quota, if the conditions of its rule hold
-pub quota_tested : (m : Setting) (slot end code : ℕ) (quota : Option Quota) (told : ℕ → ℕ) (later : Decision) → told 0 < 2 ^ 64 → IsLimited quota
+pub quota_tested : (m : Setting) (slot end code : ℕ) (quota : Option Quota) (reported : ℕ → ℕ) (later : Decision) → reported 0 < 2 ^ 64 → IsLimited quota
     → StandAt m.program slot (quota_test quota 2) → slot + quota_slots quota + 2 ≡ end
     → EndsFrom m (slot + quota_slots quota) ([], code) → EndsFrom m end later
-    → EndsFrom m slot (ruled quota code told later)
-quota_tested m slot end code None told later small limited insns target behind there = from_slot m (slot + 0) slot ([], code) (omega arith) behind
-quota_tested m slot end code (Some quota) told later small limited insns target behind there =
-    drawn m slot end code (told 0) quota later small limited insns target behind there
+    → EndsFrom m slot (ruled quota code reported later)
+quota_tested m slot end code None reported later small limited insns target following there = from_slot m (slot + 0) slot ([], code) (omega arith) following
+quota_tested m slot end code (Some quota) reported later small limited insns target following there =
+    drawn m slot end code (reported 0) quota later small limited insns target following there
 
 -- ---- the verdict
 

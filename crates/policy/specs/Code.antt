@@ -63,37 +63,37 @@ skips_if condition dst src skipped =
 -- ---- tests: a test that fails skips `behind` slots after it, to the end of its rule
 
 -- the instruction byte under a mask is that number
-abbrev pub masked_test : (mask wanted behind : ℕ) → List Insn
-masked_test mask wanted behind =
+abbrev pub masked_test : (mask wanted following : ℕ) → List Insn
+masked_test mask wanted following =
     loaded LoadByte 0 6 INSTRUCTION ∷ applied And 0 (Immediate (pos mask))
-    ∷ skips_if NotEqual 0 (Immediate (pos wanted)) behind ∷ []
+    ∷ skips_if NotEqual 0 (Immediate (pos wanted)) following ∷ []
 
 -- the command is of the kind: packet type and command code of the instruction byte (ECSS-E-ST-50-52C, instruction
 -- field)
-abbrev pub kind_test : RuleKind → (behind : ℕ) → List Insn
-kind_test Any behind = []
-kind_test Read behind = masked_test READ_MASK READ_BITS behind
-kind_test Write behind = masked_test WRITE_MASK WRITE_BITS behind
-kind_test Rmw behind = masked_test RMW_MASK RMW_BITS behind
+abbrev pub kind_test : RuleKind → (following : ℕ) → List Insn
+kind_test Any following = []
+kind_test Read following = masked_test READ_MASK READ_BITS following
+kind_test Write following = masked_test WRITE_MASK WRITE_BITS following
+kind_test Rmw following = masked_test RMW_MASK RMW_BITS following
 
 -- a byte of the header is that of the field
-abbrev pub field_test : Option ℕ → (base offset behind : ℕ) → List Insn
-field_test None base offset behind = []
-field_test (Some wanted) base offset behind =
-    loaded LoadByte 0 base offset ∷ skips_if NotEqual 0 (Immediate (pos wanted)) behind ∷ []
+abbrev pub field_test : Option ℕ → (base offset following : ℕ) → List Insn
+field_test None base offset following = []
+field_test (Some wanted) base offset following =
+    loaded LoadByte 0 base offset ∷ skips_if NotEqual 0 (Immediate (pos wanted)) following ∷ []
 
 -- the address is not below the range, and the last address not above it
-abbrev pub range_test : (low high behind : ℕ) → List Insn
-range_test low high behind =
-    set_to_bits 0 low ∷ skips_if Less 8 (FromRegister 0) (behind + 2)
-    ∷ set_to_bits 0 high ∷ skips_if Greater 9 (FromRegister 0) behind ∷ []
+abbrev pub range_test : (low high following : ℕ) → List Insn
+range_test low high following =
+    set_to_bits 0 low ∷ skips_if Less 8 (FromRegister 0) (following + 2)
+    ∷ set_to_bits 0 high ∷ skips_if Greater 9 (FromRegister 0) following ∷ []
 
 -- a ticket of the quota's cell is below the limit
-abbrev pub quota_test : Option Quota → (behind : ℕ) → List Insn
-quota_test None behind = []
-quota_test (Some quota) behind =
+abbrev pub quota_test : Option Quota → (following : ℕ) → List Insn
+quota_test None following = []
+quota_test (Some quota) following =
     LoadMap 1 (pos quota.map) ∷ set_to 2 quota.cell ∷ Call callees.Helper (pos (helper_number Ticket))
-    ∷ skips_if GreaterEqual 0 (Immediate (pos quota.limit)) behind ∷ []
+    ∷ skips_if GreaterEqual 0 (Immediate (pos quota.limit)) following ∷ []
 
 -- the end of a run with the number of a verdict
 abbrev pub verdict_code : (number : ℕ) → List Insn
@@ -102,33 +102,33 @@ verdict_code number = set_to 0 number ∷ Exit ∷ []
 -- ---- rules
 
 -- how many slots of a rule come after the test of its range
-abbrev pub behind_range : Rule → ℕ
-behind_range rule = 2 + quota_slots rule.quota
+abbrev pub slots_after_range : Rule → ℕ
+slots_after_range rule = 2 + quota_slots rule.quota
 
 -- after that of its extended address
-abbrev pub behind_extended : Rule → ℕ
-behind_extended rule = behind_range rule + 4
+abbrev pub after_extended : Rule → ℕ
+after_extended rule = slots_after_range rule + 4
 
 -- after that of its initiator logical address
-abbrev pub behind_initiator : Rule → ℕ
-behind_initiator rule = behind_extended rule + field_slots rule.extended
+abbrev pub after_initiator : Rule → ℕ
+after_initiator rule = after_extended rule + field_slots rule.extended
 
 -- after that of its key
-abbrev pub behind_key : Rule → ℕ
-behind_key rule = behind_initiator rule + field_slots rule.initiator
+abbrev pub after_key : Rule → ℕ
+after_key rule = after_initiator rule + field_slots rule.initiator
 
 -- after that of its kind
-abbrev pub behind_kind : Rule → ℕ
-behind_kind rule = behind_key rule + field_slots rule.key
+abbrev pub after_kind : Rule → ℕ
+after_kind rule = after_key rule + field_slots rule.key
 
 -- a rule: its tests, then its verdict
 abbrev pub rule_code : Rule → List Insn
 rule_code rule =
-    kind_test rule.kind (behind_kind rule)
-    ++ field_test rule.key 6 KEY (behind_key rule)
-    ++ field_test rule.initiator 7 INITIATOR (behind_initiator rule)
-    ++ field_test rule.extended 7 EXTENDED (behind_extended rule)
-    ++ range_test rule.low rule.high (behind_range rule)
+    kind_test rule.kind (after_kind rule)
+    ++ field_test rule.key 6 KEY (after_key rule)
+    ++ field_test rule.initiator 7 INITIATOR (after_initiator rule)
+    ++ field_test rule.extended 7 EXTENDED (after_extended rule)
+    ++ range_test rule.low rule.high (slots_after_range rule)
     ++ quota_test rule.quota 2
     ++ verdict_code (verdict_number rule.verdict)
 
@@ -153,21 +153,21 @@ last_address_code =
 -- ---- ports
 
 -- the last byte of the stack: r10 points to the byte after it
-abbrev pub port_place : MemoryOperand
-port_place = record { base = 10; offset = negsuc 0 }
+abbrev pub port_byte_place : MemoryOperand
+port_byte_place = record { base = 10; offset = negsuc 0 }
 
 -- the port, which is in r3 at entry, goes there
 abbrev pub port_kept : Insn
-port_kept = Store Byte port_place (FromRegister 3)
+port_kept = Store Byte port_byte_place (FromRegister 3)
 
 -- a load of the port from there
 abbrev pub port_loaded : Insn
-port_loaded = Load LoadByte 0 port_place
+port_loaded = Load LoadByte 0 port_byte_place
 
 -- the port is that of the field
-abbrev pub port_test : Option ℕ → (behind : ℕ) → List Insn
-port_test None behind = []
-port_test (Some port) behind = port_loaded ∷ skips_if NotEqual 0 (Immediate (pos port)) behind ∷ []
+abbrev pub port_test : Option ℕ → (following : ℕ) → List Insn
+port_test None following = []
+port_test (Some port) following = port_loaded ∷ skips_if NotEqual 0 (Immediate (pos port)) following ∷ []
 
 -- a rule with a port: its port is tested before all else
 abbrev pub port_rule_code : PortRule → List Insn

@@ -4,12 +4,12 @@ use Rattle.bpf.specs.Program.{Program}
 use Rattle.bpf.specs.declared.version.Version.TheVariants.{One}
 use Rattle.bpf.specs.Weight.{weight_of}
 use Rattle.machine.specs.declared.calls.Call.{Call}
-use Rattle.machine.specs.Memory.{Header, IsHeader}
+use Rattle.machine.specs.Memory.{Header, IsProgramHeader}
 use Rattle.machine.specs.Runs.{AreAnswered, Runs}
 use Rattle.machine.specs.Sizes.{IsInside, Maps, kind_of_map}
 use Rattle.machine.specs.declared.kinds.MapKind.TheVariants.{Counter}
 use Rattle.policy_table.specs.FirstFault.{compile_fault}
-use Rattle.policy_table.specs.Meaning.{AreWords, decision}
+use Rattle.policy_table.specs.Meaning.{AreAnswerWords, decision}
 use Rattle.policy_table.specs.Policies.{PolicyValue, policy_fault}
 use Rattle.policy_table.specs.Ports.{port_decision}
 use Rattle.policy_table.specs.declared.faults.PolicyFault.{PolicyFault}
@@ -39,22 +39,22 @@ IsPortFault (Some first) fault = fault ≡ first
 -- On every header and port, and for all answers of the cells, the program has a run with the table's draws and its
 -- verdict. It has no other run.
 pub record HasMeaning (rules : List Rule) (program : Program) : Type 0 where
-  pub runs : (header : Header) (port : ℕ) (told : ℕ → ℕ) → IsHeader header → port < 32 → AreWords told
-      → (n : ℕ) × Runs program header port (decision rules header told).0 n (decision rules header told).1
-  pub only : (header : Header) (port : ℕ) (told : ℕ → ℕ) (calls : List Call) (n verdict : ℕ)
-      → IsHeader header → port < 32 → AreWords told
-      → AreAnswered told calls → Runs program header port calls n verdict
-      → (calls ≡ (decision rules header told).0) × (verdict ≡ (decision rules header told).1)
+  pub runs : (header : Header) (port : ℕ) (reported : ℕ → ℕ) → IsProgramHeader header → port < 32 → AreAnswerWords reported
+      → (n : ℕ) × Runs program header port (decision rules header reported).0 n (decision rules header reported).1
+  pub only : (header : Header) (port : ℕ) (reported : ℕ → ℕ) (calls : List Call) (n verdict : ℕ)
+      → IsProgramHeader header → port < 32 → AreAnswerWords reported
+      → AreAnswered reported calls → Runs program header port calls n verdict
+      → (calls ≡ (decision rules header reported).0) × (verdict ≡ (decision rules header reported).1)
 
 -- The same of a table with ports: at each port, the draws and the verdict are those of the rules that are asked
 -- there.
 pub record HasPortMeaning (rules : List PortRule) (program : Program) : Type 0 where
-  pub runs : (header : Header) (port : ℕ) (told : ℕ → ℕ) → IsHeader header → port < 32 → AreWords told
-      → (n : ℕ) × Runs program header port (port_decision rules header port told).0 n (port_decision rules header port told).1
-  pub only : (header : Header) (port : ℕ) (told : ℕ → ℕ) (calls : List Call) (n verdict : ℕ)
-      → IsHeader header → port < 32 → AreWords told
-      → AreAnswered told calls → Runs program header port calls n verdict
-      → (calls ≡ (port_decision rules header port told).0) × (verdict ≡ (port_decision rules header port told).1)
+  pub runs : (header : Header) (port : ℕ) (reported : ℕ → ℕ) → IsProgramHeader header → port < 32 → AreAnswerWords reported
+      → (n : ℕ) × Runs program header port (port_decision rules header port reported).0 n (port_decision rules header port reported).1
+  pub only : (header : Header) (port : ℕ) (reported : ℕ → ℕ) (calls : List Call) (n verdict : ℕ)
+      → IsProgramHeader header → port < 32 → AreAnswerWords reported
+      → AreAnswered reported calls → Runs program header port calls n verdict
+      → (calls ≡ (port_decision rules header port reported).0) × (verdict ≡ (port_decision rules header port reported).1)
 
 -- the call is of a cell of the maps, in a counter map
 pub record IsOfCounter (sizes : Maps) (c : Call) : Type 0 where
@@ -64,12 +64,12 @@ pub record IsOfCounter (sizes : Maps) (c : Call) : Type 0 where
 -- the maps have every cell that the table draws from, in a counter map
 abbrev pub HasCells : Maps → List Rule → Type 0
 HasCells sizes rules =
-    (header : Header) (told : ℕ → ℕ) → All (IsOfCounter sizes) (decision rules header told).0
+    (header : Header) (reported : ℕ → ℕ) → All (IsOfCounter sizes) (decision rules header reported).0
 
 -- the maps have every cell that the table draws from at a port, in a counter map
 abbrev pub HasPortCells : Maps → List PortRule → Type 0
 HasPortCells sizes rules =
-    (header : Header) (port : ℕ) (told : ℕ → ℕ) → All (IsOfCounter sizes) (port_decision rules header port told).0
+    (header : Header) (port : ℕ) (reported : ℕ → ℕ) → All (IsOfCounter sizes) (port_decision rules header port reported).0
 
 -- A program of a table: it has the table's meaning, version 1, no loop, and its weight as its budget. The maps have
 -- the cells that it draws from.

@@ -2,7 +2,7 @@
 //! to the end of its rule.
 
 ghost use Rattle.std.specs.Prelude.{◌≡◌, ◌≤◌, ◌<◌, ◌++◌, OnOk};
-ghost use Rattle.policy.specs.Code.{address_code, field_test, keep_code, kind_test, last_address_code, masked_test, port_place, port_test, quota_test, range_test, verdict_code};
+ghost use Rattle.policy.specs.Code.{address_code, field_test, keep_code, kind_test, last_address_code, masked_test, port_byte_place, port_test, quota_test, range_test, verdict_code};
 ghost use Rattle.policy_table.specs.Limits.{IsLimited};
 ghost use Rattle.rmap.specs.Verdict.{verdict_number};
 
@@ -54,14 +54,14 @@ const LAST: u8 = 9;
 /// # Errors
 ///
 /// Memory is refused.
-fn push_masked(insns: &mut Vec<Insn>, mask: u8, wanted: u8, behind: u8) -> Result<(), AllocError>
-    ensures { OnOk result (insns.new.items ≡ insns.old.items ++ masked_test mask wanted behind) }
+fn push_masked(insns: &mut Vec<Insn>, mask: u8, wanted: u8, following: u8) -> Result<(), AllocError>
+    ensures { OnOk result (insns.new.items ≡ insns.old.items ++ masked_test mask wanted following) }
 {
     let wanted = Operand::Immediate(i32::from(wanted));
     insns.extend_from_slice(&[
         load(LoadSize::LoadByte, VALUE, FRONT, INSTRUCTION),
         apply(AluOp::And, VALUE, Operand::Immediate(i32::from(mask))),
-        skip_if(Condition::NotEqual, VALUE, wanted, behind),
+        skip_if(Condition::NotEqual, VALUE, wanted, following),
     ])
 }
 
@@ -70,14 +70,14 @@ fn push_masked(insns: &mut Vec<Insn>, mask: u8, wanted: u8, behind: u8) -> Resul
 /// # Errors
 ///
 /// Memory is refused.
-pub fn push_kind(insns: &mut Vec<Insn>, kind: RuleKind, behind: u8) -> Result<(), AllocError>
-    ensures { OnOk result (insns.new.items ≡ insns.old.items ++ kind_test kind behind) }
+pub fn push_kind(insns: &mut Vec<Insn>, kind: RuleKind, following: u8) -> Result<(), AllocError>
+    ensures { OnOk result (insns.new.items ≡ insns.old.items ++ kind_test kind following) }
 {
     match kind {
         RuleKind::Any => Ok(()),
-        RuleKind::Read => push_masked(insns, READ_MASK, READ_BITS, behind),
-        RuleKind::Write => push_masked(insns, WRITE_MASK, WRITE_BITS, behind),
-        RuleKind::Rmw => push_masked(insns, RMW_MASK, RMW_BITS, behind),
+        RuleKind::Read => push_masked(insns, READ_MASK, READ_BITS, following),
+        RuleKind::Write => push_masked(insns, WRITE_MASK, WRITE_BITS, following),
+        RuleKind::Rmw => push_masked(insns, RMW_MASK, RMW_BITS, following),
     }
 }
 
@@ -91,12 +91,12 @@ pub fn push_field(
     field: Option<u8>,
     base: u8,
     offset: usize,
-    behind: u8,
+    following: u8,
 ) -> Result<(), AllocError>
     requires base { base ≤ 10 }
     requires inside { offset < 12 }
     ensures { OnOk result
-        (insns.new.items ≡ insns.old.items ++ field_test field base offset behind) }
+        (insns.new.items ≡ insns.old.items ++ field_test field base offset following) }
 {
     let Some(wanted) = field else {
         return Ok(());
@@ -104,13 +104,13 @@ pub fn push_field(
     let wanted = Operand::Immediate(i32::from(wanted));
     insns.extend_from_slice(&[
         load(LoadSize::LoadByte, VALUE, base, offset),
-        skip_if(Condition::NotEqual, VALUE, wanted, behind),
+        skip_if(Condition::NotEqual, VALUE, wanted, following),
     ])
 }
 
 /// The last byte of the stack, which holds the port.
-fn port_place() -> MemoryOperand
-    ensures { result ≡ port_place }
+fn port_byte_place() -> MemoryOperand
+    ensures { result ≡ port_byte_place }
 {
     MemoryOperand {
         base: register(FRAME),
@@ -131,7 +131,7 @@ pub fn push_keep(insns: &mut Vec<Insn>, asked: bool) -> Result<(), AllocError>
     }
     insns.extend_from_slice(&[Insn::Store {
         size: Size::Byte,
-        place: port_place(),
+        place: port_byte_place(),
         src: source(GIVEN_PORT),
     }])
 }
@@ -141,8 +141,8 @@ pub fn push_keep(insns: &mut Vec<Insn>, asked: bool) -> Result<(), AllocError>
 /// # Errors
 ///
 /// Memory is refused.
-pub fn push_port(insns: &mut Vec<Insn>, port: Option<u8>, behind: u8) -> Result<(), AllocError>
-    ensures { OnOk result (insns.new.items ≡ insns.old.items ++ port_test port behind) }
+pub fn push_port(insns: &mut Vec<Insn>, port: Option<u8>, following: u8) -> Result<(), AllocError>
+    ensures { OnOk result (insns.new.items ≡ insns.old.items ++ port_test port following) }
 {
     let Some(port) = port else {
         return Ok(());
@@ -151,9 +151,9 @@ pub fn push_port(insns: &mut Vec<Insn>, port: Option<u8>, behind: u8) -> Result<
     let loaded = Insn::Load {
         size: LoadSize::LoadByte,
         dst: register(VALUE),
-        place: port_place(),
+        place: port_byte_place(),
     };
-    insns.extend_from_slice(&[loaded, skip_if(Condition::NotEqual, VALUE, wanted, behind)])
+    insns.extend_from_slice(&[loaded, skip_if(Condition::NotEqual, VALUE, wanted, following)])
 }
 
 /// Tests that the address is not below the range, and the last address not above it.
@@ -161,15 +161,15 @@ pub fn push_port(insns: &mut Vec<Insn>, port: Option<u8>, behind: u8) -> Result<
 /// # Errors
 ///
 /// Memory is refused.
-pub fn push_range(insns: &mut Vec<Insn>, low: u32, high: u32, behind: u8) -> Result<(), AllocError>
-    requires { behind ≤ 250 }
-    ensures { OnOk result (insns.new.items ≡ insns.old.items ++ range_test low high behind) }
+pub fn push_range(insns: &mut Vec<Insn>, low: u32, high: u32, following: u8) -> Result<(), AllocError>
+    requires { following ≤ 250 }
+    ensures { OnOk result (insns.new.items ≡ insns.old.items ++ range_test low high following) }
 {
     insns.extend_from_slice(&[
         set_bits(VALUE, low),
-        skip_if(Condition::Less, FIRST, source(VALUE), behind + 2),
+        skip_if(Condition::Less, FIRST, source(VALUE), following + 2),
         set_bits(VALUE, high),
-        skip_if(Condition::Greater, LAST, source(VALUE), behind),
+        skip_if(Condition::Greater, LAST, source(VALUE), following),
     ])
 }
 
@@ -178,9 +178,9 @@ pub fn push_range(insns: &mut Vec<Insn>, low: u32, high: u32, behind: u8) -> Res
 /// # Errors
 ///
 /// Memory is refused.
-pub fn push_quota(insns: &mut Vec<Insn>, quota: Option<Quota>, behind: u8) -> Result<(), AllocError>
+pub fn push_quota(insns: &mut Vec<Insn>, quota: Option<Quota>, following: u8) -> Result<(), AllocError>
     requires { IsLimited quota }
-    ensures { OnOk result (insns.new.items ≡ insns.old.items ++ quota_test quota behind) }
+    ensures { OnOk result (insns.new.items ≡ insns.old.items ++ quota_test quota following) }
 {
     let Some(quota) = quota else {
         return Ok(());
@@ -198,7 +198,7 @@ pub fn push_quota(insns: &mut Vec<Insn>, quota: Option<Quota>, behind: u8) -> Re
         map,
         set(CELL, quota.cell),
         ticket,
-        skip_if(Condition::GreaterEqual, VALUE, limit, behind),
+        skip_if(Condition::GreaterEqual, VALUE, limit, following),
     ])
 }
 

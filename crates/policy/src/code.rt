@@ -27,16 +27,16 @@ fn push_rule(insns: &mut Vec<Insn>, rule: &Rule) -> Result<(), AllocError>
     requires { IsLimited rule.now.quota }
     ensures { OnOk result (insns.new.items ≡ insns.old.items ++ rule_code rule.now) }
 {
-    let behind_range = VERDICT_SLOTS + quota_slots(rule.quota);
-    let behind_extended = behind_range + RANGE_SLOTS;
-    let behind_initiator = behind_extended + field_slots(rule.extended);
-    let behind_key = behind_initiator + field_slots(rule.initiator);
-    let behind_kind = behind_key + field_slots(rule.key);
-    push_kind(insns, rule.kind, behind_kind)?;
-    push_field(insns, rule.key, FRONT, KEY, behind_key)?;
-    push_field(insns, rule.initiator, TAIL, INITIATOR, behind_initiator)?;
-    push_field(insns, rule.extended, TAIL, EXTENDED, behind_extended)?;
-    push_range(insns, rule.low, rule.high, behind_range)?;
+    let slots_after_range = VERDICT_SLOTS + quota_slots(rule.quota);
+    let after_extended = slots_after_range + RANGE_SLOTS;
+    let after_initiator = after_extended + field_slots(rule.extended);
+    let after_key = after_initiator + field_slots(rule.initiator);
+    let after_kind = after_key + field_slots(rule.key);
+    push_kind(insns, rule.kind, after_kind)?;
+    push_field(insns, rule.key, FRONT, KEY, after_key)?;
+    push_field(insns, rule.initiator, TAIL, INITIATOR, after_initiator)?;
+    push_field(insns, rule.extended, TAIL, EXTENDED, after_extended)?;
+    push_range(insns, rule.low, rule.high, slots_after_range)?;
     push_quota(insns, rule.quota, VERDICT_SLOTS)?;
     push_verdict(insns, rule.verdict)
 }

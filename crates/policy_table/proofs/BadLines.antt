@@ -1,7 +1,7 @@
 -- Lines that are no rules.
 use Rattle.std.proofs.Common.{◌≡◌, ◌++◌, ℕ, List, [], ◌∷◌, length, get_or, inl, inr, sym, ap, subst, ◌∙◌}
 use Rattle.spw.specs.Line.{words_of}
-use Rattle.policy_table.specs.Fields.{IsAddress, IsField, IsKind, IsQuota, IsVerdict}
+use Rattle.policy_table.specs.Fields.{IsAddress, IsField, IsKind, IsQuota, IsVerdictWord}
 use Rattle.policy_table.specs.Lines.{AreNoRules, IsReadFault, IsRule}
 use Rattle.policy_table.specs.NoRules.{HasBadWord, HasWords, IsNoRule}
 use Rattle.policy_table.specs.Words.{AreWordsOf, IsFirstBad, LineWords, in_order}
@@ -47,7 +47,7 @@ its_words line w rule words is =
       is_low = subst (λ (x : List ℕ). IsAddress x rule.low) (ap (nth 4) same) is.is_low;
       is_high = subst (λ (x : List ℕ). IsAddress x rule.high) (ap (nth 5) same) is.is_high;
       is_quota = subst (λ (x : List ℕ). IsQuota x rule.quota) (ap (nth 6) same) is.is_quota;
-      is_verdict = subst (λ (x : List ℕ). IsVerdict x rule.verdict) (ap (nth 7) same) is.is_verdict;
+      is_verdict = subst (λ (x : List ℕ). IsVerdictWord x rule.verdict) (ap (nth 7) same) is.is_verdict;
     }
 
 -- words of which one is bad are those of no rule

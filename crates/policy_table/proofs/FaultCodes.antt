@@ -4,18 +4,18 @@ use Rattle.std.specs.Option.{option_or}
 use Rattle.std.proofs.Common.{◌≡◌, ◌++◌, ℕ, Bool, true, false, List, [], ◌∷◌, Option, Some, None, refl, sym, ap, ◌∙◌, subst, inl, inr}
 use Rattle.std.proofs.lemmas.List.Folds.{find-append}
 use Rattle.machine.specs.Sizes.{Maps}
-use Rattle.policy_table.specs.Drafts.{IsBad, IsBadTwo, IsNoStatement, line_words}
+use Rattle.policy_table.specs.PartialTables.{IsBad, IsBadTwo, IsNoStatement, line_words}
 use Rattle.policy_table.specs.FirstFault.{quota_fault}
 use Rattle.policy_table.specs.NoRules.{IsNoRule}
-use Rattle.policy_table.specs.Policies.{is_reversed, reversed_told, rule_told}
+use Rattle.policy_table.specs.Policies.{is_reversed, reversed_fault, placed_rule_fault}
 use Rattle.policy_table.specs.Ranges.{RangeText}
 use Rattle.policy_table.specs.Refined.{begins_comment, fifth_word, is_joined_at, refined, third_word}
-use Rattle.policy_table.specs.Room.{is_too_much, room_told, too_many}
+use Rattle.policy_table.specs.Room.{is_too_much, room_fault, too_many}
 use Rattle.policy_table.specs.StatementFaults.{policy_fault_in}
 use Rattle.policy_table.specs.Statements.{IsNoRange, IsNoRuleLine, statement_words}
-use Rattle.policy_table.specs.Surveys.{first_of, first_of_code, has_code, listed, reversed_at, statement_faults}
-use Rattle.policy_table.specs.declared.drafts.Statement.{Statement}
-use Rattle.policy_table.specs.declared.drafts.Statement.TheVariants as says
+use Rattle.policy_table.specs.Surveys.{first_text_fault, first_of_code, has_code, listed, reversed_at, statement_faults}
+use Rattle.policy_table.specs.declared.partial_tables.TableStatement.{TableStatement}
+use Rattle.policy_table.specs.declared.partial_tables.TableStatement.TheVariants as says
 use Rattle.policy_table.specs.declared.faults.PolicyFault.{PolicyFault}
 use Rattle.policy_table.specs.declared.faults.PolicyFault.TheVariants as faults
 use Rattle.policy_table.specs.declared.port_rules.PortRule.{PortRule}
@@ -76,9 +76,9 @@ refined_bad (first ∷ rest) fault h =
     (either fifth wrong.RuleJoined fault refl h))
 
 -- the fault that is reported of a line that is none of its version
-pub told_bad : (version : TableVersion) (ranges : List RangeText) (text : List ℕ) (fault : StatementFault) → IsNoStatement version ranges text fault → IsOfLine fault
-told_bad version ranges text fault is =
-    subst (λ (f : StatementFault). IsOfLine f) (sym is.told) (refined_bad (line_words version text) is.bad (line_bad version ranges text is.bad is.is_bad))
+pub reported_bad : (version : TableVersion) (ranges : List RangeText) (text : List ℕ) (fault : StatementFault) → IsNoStatement version ranges text fault → IsOfLine fault
+reported_bad version ranges text fault is =
+    subst (λ (f : StatementFault). IsOfLine f) (sym is.reported) (refined_bad (line_words version text) is.bad (line_bad version ranges text is.bad is.is_bad))
 
 code_five : (line : ℕ) (fault : StatementFault) (own : PolicyFault) → policy_fault_in fault ≡ own → own ≡ faults.BadLine → has_code 5 (Line line fault) ≡ true
 code_five line fault own is bad = rw (is ∙ bad) refl
@@ -94,18 +94,18 @@ room_five true One r own = refl
 room_five true Two r own = refl
 room_five false version r own = refl
 
-told_five : (version : TableVersion) (room : Option Room) (own : PortRule) → first_of_code 5 (listed (room_told version room own)) ≡ None
-told_five version None own = refl
-told_five version (Some r) own = room_five (is_too_much version r own) version r own
+reported_five : (version : TableVersion) (room : Option Room) (own : PortRule) → first_of_code 5 (listed (room_fault version room own)) ≡ None
+reported_five version None own = refl
+reported_five version (Some r) own = room_five (is_too_much version r own) version r own
 
 room_one : (t : Bool) (version : TableVersion) (r : Room) (own : PortRule) → first_of_code 1 (listed (if t then Some (Line own.line (too_many version r own)) else None)) ≡ (if t then Some (Line own.line (too_many version r own)) else None)
 room_one true One r own = refl
 room_one true Two r own = refl
 room_one false version r own = refl
 
-told_one : (version : TableVersion) (room : Option Room) (own : PortRule) → first_of_code 1 (listed (room_told version room own)) ≡ room_told version room own
-told_one version None own = refl
-told_one version (Some r) own = room_one (is_too_much version r own) version r own
+reported_one : (version : TableVersion) (room : Option Room) (own : PortRule) → first_of_code 1 (listed (room_fault version room own)) ≡ room_fault version room own
+reported_one version None own = refl
+reported_one version (Some r) own = room_one (is_too_much version r own) version r own
 
 -- the fault of a rule that has room
 abbrev cell_or_order : Bool → Option PolicyFault → PortRule → Option TextFault
@@ -128,53 +128,53 @@ pub code_append : (code : ℕ) (xs ys : List TextFault) → first_of_code code (
 code_append code xs ys = find-append (has_code code) xs ys
 
 -- the first of two lists
-pub first_append : (xs ys : List TextFault) → first_of (xs ++ ys) ≡ option_or (first_of xs) (first_of ys)
+pub first_append : (xs ys : List TextFault) → first_text_fault (xs ++ ys) ≡ option_or (first_text_fault xs) (first_text_fault ys)
 first_append [] ys = refl
 first_append (x ∷ xs) ys = refl
 
-pub first_listed : (o : Option TextFault) → first_of (listed o) ≡ o
+pub first_listed : (o : Option TextFault) → first_text_fault (listed o) ≡ o
 first_listed None = refl
 first_listed (Some fault) = refl
 
 -- ---- what a line says, in all
 
-own_five : (version : TableVersion) (sizes : Maps) (room : Option Room) (own : PortRule) → first_of_code 5 (listed (room_told version room own) ++ listed (rule_told sizes own)) ≡ None
+own_five : (version : TableVersion) (sizes : Maps) (room : Option Room) (own : PortRule) → first_of_code 5 (listed (room_fault version room own) ++ listed (placed_rule_fault sizes own)) ≡ None
 own_five version sizes room own =
-    let rule : first_of_code 5 (listed (rule_told sizes own)) ≡ None = rule_five (is_reversed own) (quota_fault sizes own.rule.quota) own in
-    code_append 5 (listed (room_told version room own)) (listed (rule_told sizes own))
-    ∙ ap (λ (o : Option TextFault). option_or o (first_of_code 5 (listed (rule_told sizes own)))) (told_five version room own) ∙ rule
+    let rule : first_of_code 5 (listed (placed_rule_fault sizes own)) ≡ None = rule_five (is_reversed own) (quota_fault sizes own.rule.quota) own in
+    code_append 5 (listed (room_fault version room own)) (listed (placed_rule_fault sizes own))
+    ∙ ap (λ (o : Option TextFault). option_or o (first_of_code 5 (listed (placed_rule_fault sizes own)))) (reported_five version room own) ∙ rule
 
-reversed_five : (line : ℕ) (reversed : Bool) → first_of_code 5 (listed (reversed_told (reversed_at line reversed))) ≡ None
+reversed_five : (line : ℕ) (reversed : Bool) → first_of_code 5 (listed (reversed_fault (reversed_at line reversed))) ≡ None
 reversed_five line true = refl
 reversed_five line false = refl
 
-reversed_one : (line : ℕ) (reversed : Bool) → first_of_code 1 (listed (reversed_told (reversed_at line reversed))) ≡ None
+reversed_one : (line : ℕ) (reversed : Bool) → first_of_code 1 (listed (reversed_fault (reversed_at line reversed))) ≡ None
 reversed_one line true = refl
 reversed_one line false = refl
 
 -- no line that says something is bad
-pub statement_five : (version : TableVersion) (sizes : Maps) (room : Option Room) (line : ℕ) (statement : Statement) → first_of_code 5 (statement_faults version sizes room line statement) ≡ None
+pub statement_five : (version : TableVersion) (sizes : Maps) (room : Option Room) (line : ℕ) (statement : TableStatement) → first_of_code 5 (statement_faults version sizes room line statement) ≡ None
 statement_five version sizes room line says.Nothing = refl
 statement_five version sizes room line (says.Range range reversed) = reversed_five line reversed
 statement_five version sizes room line (says.Rule own) = own_five version sizes room own
 
 -- there is no room for the rule that it says, or there is
-abbrev pub room_of : TableVersion → Option Room → Statement → Option TextFault
+abbrev pub room_of : TableVersion → Option Room → TableStatement → Option TextFault
 room_of version room says.Nothing = None
 room_of version room (says.Range range reversed) = None
-room_of version room (says.Rule own) = room_told version room own
+room_of version room (says.Rule own) = room_fault version room own
 
 or_none : (o p : Option TextFault) → p ≡ None → option_or o p ≡ o
 or_none None p is = is
 or_none (Some fault) p is = refl
 
-own_one : (version : TableVersion) (sizes : Maps) (room : Option Room) (own : PortRule) → first_of_code 1 (listed (room_told version room own) ++ listed (rule_told sizes own)) ≡ room_told version room own
+own_one : (version : TableVersion) (sizes : Maps) (room : Option Room) (own : PortRule) → first_of_code 1 (listed (room_fault version room own) ++ listed (placed_rule_fault sizes own)) ≡ room_fault version room own
 own_one version sizes room own =
-    code_append 1 (listed (room_told version room own)) (listed (rule_told sizes own))
-    ∙ or_none (first_of_code 1 (listed (room_told version room own))) (first_of_code 1 (listed (rule_told sizes own))) (rule_one (is_reversed own) (quota_fault sizes own.rule.quota) own)
-    ∙ told_one version room own
+    code_append 1 (listed (room_fault version room own)) (listed (placed_rule_fault sizes own))
+    ∙ or_none (first_of_code 1 (listed (room_fault version room own))) (first_of_code 1 (listed (placed_rule_fault sizes own))) (rule_one (is_reversed own) (quota_fault sizes own.rule.quota) own)
+    ∙ reported_one version room own
 
-pub statement_one : (version : TableVersion) (sizes : Maps) (room : Option Room) (line : ℕ) (statement : Statement) → first_of_code 1 (statement_faults version sizes room line statement) ≡ room_of version room statement
+pub statement_one : (version : TableVersion) (sizes : Maps) (room : Option Room) (line : ℕ) (statement : TableStatement) → first_of_code 1 (statement_faults version sizes room line statement) ≡ room_of version room statement
 statement_one version sizes room line says.Nothing = refl
 statement_one version sizes room line (says.Range range reversed) = reversed_one line reversed
 statement_one version sizes room line (says.Rule own) = own_one version sizes room own

@@ -33,11 +33,11 @@ few_drawn : (t : Bool) (c : Call) (code : ℕ) (rest : List Call × ℕ) (n : �
 few_drawn true c code rest n h = omega arith
 few_drawn false c code rest n h = omega (arith, h)
 
-few_ruled : (quota : Option Quota) (code : ℕ) (told : ℕ → ℕ) (rest : List Call × ℕ) (n : ℕ) → length rest.0 ≤ n
-    → length (ruled quota code told rest).0 ≤ suc n
-few_ruled None code told rest n h = omega arith
-few_ruled (Some quota) code told rest n h =
-    few_drawn (nat_lt (told 0) quota.limit) (draw quota (told 0)) code rest n h
+few_ruled : (quota : Option Quota) (code : ℕ) (reported : ℕ → ℕ) (rest : List Call × ℕ) (n : ℕ) → length rest.0 ≤ n
+    → length (ruled quota code reported rest).0 ≤ suc n
+few_ruled None code reported rest n h = omega arith
+few_ruled (Some quota) code reported rest n h =
+    few_drawn (nat_lt (reported 0) quota.limit) (draw quota (reported 0)) code rest n h
 
 few_if : (t : Bool) (held other : List Call × ℕ) (n : ℕ) → length held.0 ≤ suc n → length other.0 ≤ n
     → length (chosen t held other).0 ≤ suc n
@@ -45,35 +45,35 @@ few_if true held other n h g = h
 few_if false held other n h g = omega (arith, g)
 
 pub draws_are_few : DrawsAreFew
-draws_are_few [] header told = omega arith
-draws_are_few (rule ∷ rules) header told =
-    few_if (holds rule header) (ruled rule.quota (verdict_number rule.verdict) told (decision rules header (λ k. told (suc k)))) (decision rules header told) (length rules)
-    (few_ruled rule.quota (verdict_number rule.verdict) told (decision rules header (λ k. told (suc k))) (length rules) (draws_are_few rules header (λ k. told (suc k))))
-    (draws_are_few rules header told)
+draws_are_few [] header reported = omega arith
+draws_are_few (rule ∷ rules) header reported =
+    few_if (holds rule header) (ruled rule.quota (verdict_number rule.verdict) reported (decision rules header (λ k. reported (suc k)))) (decision rules header reported) (length rules)
+    (few_ruled rule.quota (verdict_number rule.verdict) reported (decision rules header (λ k. reported (suc k))) (length rules) (draws_are_few rules header (λ k. reported (suc k))))
+    (draws_are_few rules header reported)
 
 -- ---- their answers
 
-answered_drawn : (t : Bool) (quota : Quota) (code : ℕ) (told : ℕ → ℕ) (rest : List Call × ℕ) → AreAnswered (λ k. told (suc k)) rest.0
-    → AreAnswered told (chosen t (draw quota (told 0) ∷ [], code) (draw quota (told 0) ∷ rest.0, rest.1)).0
-answered_drawn true quota code told rest h = (refl, tt)
-answered_drawn false quota code told rest h = (refl, h)
+answered_drawn : (t : Bool) (quota : Quota) (code : ℕ) (reported : ℕ → ℕ) (rest : List Call × ℕ) → AreAnswered (λ k. reported (suc k)) rest.0
+    → AreAnswered reported (chosen t (draw quota (reported 0) ∷ [], code) (draw quota (reported 0) ∷ rest.0, rest.1)).0
+answered_drawn true quota code reported rest h = (refl, tt)
+answered_drawn false quota code reported rest h = (refl, h)
 
-answered_ruled : (quota : Option Quota) (code : ℕ) (told : ℕ → ℕ) (rest : List Call × ℕ) → AreAnswered (λ k. told (suc k)) rest.0
-    → AreAnswered told (ruled quota code told rest).0
-answered_ruled None code told rest h = tt
-answered_ruled (Some quota) code told rest h = answered_drawn (nat_lt (told 0) quota.limit) quota code told rest h
+answered_ruled : (quota : Option Quota) (code : ℕ) (reported : ℕ → ℕ) (rest : List Call × ℕ) → AreAnswered (λ k. reported (suc k)) rest.0
+    → AreAnswered reported (ruled quota code reported rest).0
+answered_ruled None code reported rest h = tt
+answered_ruled (Some quota) code reported rest h = answered_drawn (nat_lt (reported 0) quota.limit) quota code reported rest h
 
-answered_if : (t : Bool) (told : ℕ → ℕ) (held other : List Call × ℕ) → AreAnswered told held.0 → AreAnswered told other.0
-    → AreAnswered told (chosen t held other).0
-answered_if true told held other h g = h
-answered_if false told held other h g = g
+answered_if : (t : Bool) (reported : ℕ → ℕ) (held other : List Call × ℕ) → AreAnswered reported held.0 → AreAnswered reported other.0
+    → AreAnswered reported (chosen t held other).0
+answered_if true reported held other h g = h
+answered_if false reported held other h g = g
 
 pub draws_are_answered : DrawsAreAnswered
-draws_are_answered [] header told = tt
-draws_are_answered (rule ∷ rules) header told =
-    answered_if (holds rule header) told (ruled rule.quota (verdict_number rule.verdict) told (decision rules header (λ k. told (suc k)))) (decision rules header told)
-    (answered_ruled rule.quota (verdict_number rule.verdict) told (decision rules header (λ k. told (suc k))) (draws_are_answered rules header (λ k. told (suc k))))
-    (draws_are_answered rules header told)
+draws_are_answered [] header reported = tt
+draws_are_answered (rule ∷ rules) header reported =
+    answered_if (holds rule header) reported (ruled rule.quota (verdict_number rule.verdict) reported (decision rules header (λ k. reported (suc k)))) (decision rules header reported)
+    (answered_ruled rule.quota (verdict_number rule.verdict) reported (decision rules header (λ k. reported (suc k))) (draws_are_answered rules header (λ k. reported (suc k))))
+    (draws_are_answered rules header reported)
 
 -- ---- which rule decides
 
@@ -85,39 +85,39 @@ pub taken : (t : Bool) (held other : List Call × ℕ) → t ≡ true → chosen
 taken true held other e = refl
 taken false held other e = cc
 
-pub unlimited : (quota : Option Quota) (code : ℕ) (told : ℕ → ℕ) (rest : List Call × ℕ) → quota ≡ None
-    → ruled quota code told rest ≡ ([], code)
-unlimited None code told rest e = refl
-unlimited (Some quota) code told rest e = cc
+pub unlimited : (quota : Option Quota) (code : ℕ) (reported : ℕ → ℕ) (rest : List Call × ℕ) → quota ≡ None
+    → ruled quota code reported rest ≡ ([], code)
+unlimited None code reported rest e = refl
+unlimited (Some quota) code reported rest e = cc
 
 -- a rule whose conditions do not hold says nothing
-pub passes_over : (rule : Rule) (rules : List Rule) (header : Header) (told : ℕ → ℕ) → holds rule header ≡ false
-    → decision (rule ∷ rules) header told ≡ decision rules header told
-passes_over rule rules header told e =
-    skipped (holds rule header) (ruled rule.quota (verdict_number rule.verdict) told (decision rules header (λ k. told (suc k)))) (decision rules header told) e
+pub passes_over : (rule : Rule) (rules : List Rule) (header : Header) (reported : ℕ → ℕ) → holds rule header ≡ false
+    → decision (rule ∷ rules) header reported ≡ decision rules header reported
+passes_over rule rules header reported e =
+    skipped (holds rule header) (ruled rule.quota (verdict_number rule.verdict) reported (decision rules header (λ k. reported (suc k)))) (decision rules header reported) e
 
 -- a rule whose conditions hold rules
-pub rules_by : (rule : Rule) (rules : List Rule) (header : Header) (told : ℕ → ℕ) → holds rule header ≡ true
-    → decision (rule ∷ rules) header told ≡ ruled rule.quota (verdict_number rule.verdict) told (decision rules header (λ k. told (suc k)))
-rules_by rule rules header told e =
-    taken (holds rule header) (ruled rule.quota (verdict_number rule.verdict) told (decision rules header (λ k. told (suc k)))) (decision rules header told) e
+pub rules_by : (rule : Rule) (rules : List Rule) (header : Header) (reported : ℕ → ℕ) → holds rule header ≡ true
+    → decision (rule ∷ rules) header reported ≡ ruled rule.quota (verdict_number rule.verdict) reported (decision rules header (λ k. reported (suc k)))
+rules_by rule rules header reported e =
+    taken (holds rule header) (ruled rule.quota (verdict_number rule.verdict) reported (decision rules header (λ k. reported (suc k)))) (decision rules header reported) e
 
 pub first_rule : FirstRuleDecides
-first_rule [] after rule header told all held none =
-    rules_by rule after header told held ∙ unlimited rule.quota (verdict_number rule.verdict) told (decision after header (λ k. told (suc k))) none
-first_rule (other ∷ before) after rule header told all held none =
+first_rule [] after rule header reported all held none =
+    rules_by rule after header reported held ∙ unlimited rule.quota (verdict_number rule.verdict) reported (decision after header (λ k. reported (suc k))) none
+first_rule (other ∷ before) after rule header reported all held none =
     let P : Rule → Type 0 = λ r. holds r header ≡ false in
-    passes_over other (before ++ rule ∷ after) header told (All-head P other before all)
-    ∙ first_rule before after rule header told (All-tail P other before all) held none
+    passes_over other (before ++ rule ∷ after) header reported (All-head P other before all)
+    ∙ first_rule before after rule header reported (All-tail P other before all) held none
 
 pub no_rule : NoRuleRefuses
-no_rule [] header told all = refl
-no_rule (rule ∷ rules) header told all =
+no_rule [] header reported all = refl
+no_rule (rule ∷ rules) header reported all =
     let P : Rule → Type 0 = λ r. holds r header ≡ false in
-    passes_over rule rules header told (All-head P rule rules all) ∙ no_rule rules header told (All-tail P rule rules all)
+    passes_over rule rules header reported (All-head P rule rules all) ∙ no_rule rules header reported (All-tail P rule rules all)
 
 -- ---- answers that are the same
 
-pub decision_same : (rules : List Rule) (header : Header) (told other : ℕ → ℕ) → ((k : ℕ) → told k ≡ other k) → decision rules header told ≡ decision rules header other
-decision_same rules header told other same =
-    let functions : told ≡ other = λ i. λ k. same k i in ap (λ (f : ℕ → ℕ). decision rules header f) functions
+pub decision_same : (rules : List Rule) (header : Header) (reported other : ℕ → ℕ) → ((k : ℕ) → reported k ≡ other k) → decision rules header reported ≡ decision rules header other
+decision_same rules header reported other same =
+    let functions : reported ≡ other = λ i. λ k. same k i in ap (λ (f : ℕ → ℕ). decision rules header f) functions

@@ -6,7 +6,7 @@ use Rattle.std.proofs.lemmas.List.{append-nil}
 use Rattle.machine.specs.declared.calls.Call.{Call}
 use Rattle.machine.specs.Memory.{Header}
 use Rattle.policy_table.specs.Mismatches.{passed}
-use Rattle.policy_table.specs.Passing.{draws_behind, passed_first, passed_rules}
+use Rattle.policy_table.specs.Passing.{draws_after, passed_first, passed_rules}
 use Rattle.policy_table.specs.declared.mismatches.Passed.{Passed}
 use Rattle.policy_table.specs.declared.rules.Rule.{Rule}
 
@@ -18,24 +18,24 @@ from_rule rules header n draws d why within is =
     ∙ ap (λ (o : Option Passed). passed_first o (λ left. passed_rules (drop (suc n) rules) header left) draws) is
 
 -- one that does not match is passed
-pub passes_one : (rules : List Rule) (header : Header) (n : ℕ) (draws : List Call) (d : Rule) (why : Passed) (told : List Passed) (whole : List Passed) → n < length rules
+pub passes_one : (rules : List Rule) (header : Header) (n : ℕ) (draws : List Call) (d : Rule) (why : Passed) (reported : List Passed) (whole : List Passed) → n < length rules
     → passed (get_or rules n d) header (slice_get draws 0) ≡ Some why
-    → whole ≡ told ++ passed_rules (drop n rules) header draws
-    → whole ≡ (told ++ why ∷ []) ++ passed_rules (drop (n + 1) rules) header (draws_behind why draws)
-passes_one rules header n draws d why told whole within is so =
-    let rest : ℕ → List Passed = λ k. passed_rules (drop k rules) header (draws_behind why draws) in
-    so ∙ ap (λ (more : List Passed). told ++ more) (from_rule rules header n draws d (Some why) within is)
-    ∙ ap (λ (k : ℕ). told ++ why ∷ rest k) (sym (add-one n))
-    ∙ sym (append_assoc told (why ∷ []) (rest (n + 1)))
+    → whole ≡ reported ++ passed_rules (drop n rules) header draws
+    → whole ≡ (reported ++ why ∷ []) ++ passed_rules (drop (n + 1) rules) header (draws_after why draws)
+passes_one rules header n draws d why reported whole within is so =
+    let rest : ℕ → List Passed = λ k. passed_rules (drop k rules) header (draws_after why draws) in
+    so ∙ ap (λ (more : List Passed). reported ++ more) (from_rule rules header n draws d (Some why) within is)
+    ∙ ap (λ (k : ℕ). reported ++ why ∷ rest k) (sym (add-one n))
+    ∙ sym (append_assoc reported (why ∷ []) (rest (n + 1)))
 
 -- at one that matches, all that are passed are found
-pub stops_there : (rules : List Rule) (header : Header) (n : ℕ) (draws : List Call) (d : Rule) (told : List Passed) (whole : List Passed) → n < length rules
-    → passed (get_or rules n d) header (slice_get draws 0) ≡ None → whole ≡ told ++ passed_rules (drop n rules) header draws → told ≡ whole
-stops_there rules header n draws d told whole within is so =
-    sym (so ∙ ap (λ (more : List Passed). told ++ more) (from_rule rules header n draws d None within is) ∙ append-nil told)
+pub stops_there : (rules : List Rule) (header : Header) (n : ℕ) (draws : List Call) (d : Rule) (reported : List Passed) (whole : List Passed) → n < length rules
+    → passed (get_or rules n d) header (slice_get draws 0) ≡ None → whole ≡ reported ++ passed_rules (drop n rules) header draws → reported ≡ whole
+stops_there rules header n draws d reported whole within is so =
+    sym (so ∙ ap (λ (more : List Passed). reported ++ more) (from_rule rules header n draws d None within is) ∙ append-nil reported)
 
 -- and after the last
-pub stops_behind : (rules : List Rule) (header : Header) (n : ℕ) (draws : List Call) (told : List Passed) (whole : List Passed)
-    → drop n rules ≡ [] → whole ≡ told ++ passed_rules (drop n rules) header draws → told ≡ whole
-stops_behind rules header n draws told whole none so =
-    sym (so ∙ ap (λ (rs : List Rule). told ++ passed_rules rs header draws) none ∙ append-nil told)
+pub stops_after : (rules : List Rule) (header : Header) (n : ℕ) (draws : List Call) (reported : List Passed) (whole : List Passed)
+    → drop n rules ≡ [] → whole ≡ reported ++ passed_rules (drop n rules) header draws → reported ≡ whole
+stops_after rules header n draws reported whole none so =
+    sym (so ∙ ap (λ (rs : List Rule). reported ++ passed_rules rs header draws) none ∙ append-nil reported)

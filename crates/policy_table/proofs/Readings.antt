@@ -3,7 +3,7 @@ use Rattle.std.proofs.Common.{◌≡◌, ◌+◌, ◌*◌, ℕ, List, [], ◌∷
 use Rattle.std.specs.Prelude.{min}
 use Rattle.std.specs.Str.Parse.{digits_value}
 use Rattle.spw.specs.Line.{lines_of}
-use Rattle.policy_table.specs.Fields.{IsAddress, IsField, IsKind, IsQuota, IsVerdict, WritesQuota, parts_of}
+use Rattle.policy_table.specs.Fields.{IsAddress, IsField, IsKind, IsQuota, IsVerdictWord, WritesQuota, parts_of}
 use Rattle.policy_table.specs.Lines.{AreRules, IsRule, TableIsUnambiguous}
 use Rattle.policy_table.specs.declared.rules.Quota.{Quota}
 use Rattle.policy_table.specs.declared.rules.Rule.{Rule}
@@ -117,7 +117,7 @@ one_rule line a b h g =
     (one_address g.low a.low b.low (subst (λ (w : List ℕ). IsAddress w a.low) low h.is_low) g.is_low)
     (one_address g.high a.high b.high (subst (λ (w : List ℕ). IsAddress w a.high) high h.is_high) g.is_high)
     (one_quota g.quota a.quota b.quota (subst (λ (w : List ℕ). IsQuota w a.quota) quota h.is_quota) g.is_quota)
-    (one_verdict g.verdict a.verdict b.verdict (subst (λ (w : List ℕ). IsVerdict w a.verdict) verdict h.is_verdict) g.is_verdict)
+    (one_verdict g.verdict a.verdict b.verdict (subst (λ (w : List ℕ). IsVerdictWord w a.verdict) verdict h.is_verdict) g.is_verdict)
 
 -- ---- lines
 

@@ -7,14 +7,14 @@ use Rattle.std.proofs.lemmas.Bool.Decides.{nat_tests}
 use Rattle.std.proofs.lemmas.List.{append-nil, append_assoc}
 use Rattle.std.proofs.lemmas.List.Elements.{All-head, All-nil, All-push, All-tail, All-weaker}
 use Rattle.machine.specs.Sizes.{Maps}
-use Rattle.policy_table.specs.Drafts.{HasBadLine, IsStatement, IsStatementTwo, LinesWrite, TakesLine, empty_draft, first_reversed}
-use Rattle.policy_table.specs.Policies.{PolicyValue, ReadingValue, WritesPolicy, WritesReading, policy_fault, policy_value, reading_of, reversed_told, rule_told, rules_told}
+use Rattle.policy_table.specs.PartialTables.{HasBadLine, IsStatement, IsStatementTwo, LinesWrite, TakesLine, empty_partial_table, first_reversed}
+use Rattle.policy_table.specs.Policies.{PolicyValue, ReadingValue, WritesPolicy, WritesReading, policy_fault, policy_value, policy_reading_of, reversed_fault, placed_rule_fault, placed_rules_fault}
 use Rattle.policy_table.specs.Ranges.{RangeText}
-use Rattle.policy_table.specs.Room.{length_from, length_told, room_after, room_told}
+use Rattle.policy_table.specs.Room.{length_from, length_fault, room_after, room_fault}
 use Rattle.policy_table.specs.Statements.{statement_words}
-use Rattle.policy_table.specs.Surveys.{AreFaults, FindsBad, FindsLine, FindsLines, IsReported, SurveyValue, empty_survey, first_of, first_of_code, listed, reported, reversed_at, statement_faults, with_statement}
-use Rattle.policy_table.specs.declared.drafts.Statement.{Statement}
-use Rattle.policy_table.specs.declared.drafts.Statement.TheVariants as says
+use Rattle.policy_table.specs.Surveys.{AreFaults, FindsBad, FindsLine, FindsLines, IsReported, SurveyValue, empty_survey, first_text_fault, first_of_code, listed, reported_fault, reversed_at, statement_faults, with_statement}
+use Rattle.policy_table.specs.declared.partial_tables.TableStatement.{TableStatement}
+use Rattle.policy_table.specs.declared.partial_tables.TableStatement.TheVariants as says
 use Rattle.policy_table.specs.declared.port_rules.PortRule.{PortRule}
 use Rattle.policy_table.specs.declared.ranges.NamedRange.{NamedRange}
 use Rattle.policy_table.specs.declared.room.Room.{Room}
@@ -23,7 +23,7 @@ use Rattle.policy_table.specs.declared.text_faults.TextFault.{TextFault}
 use Rattle.policy_table.specs.declared.text_faults.TextFault.TheVariants.{Line}
 use Rattle.policy_table.specs.declared.versions.TableVersion.{TableVersion}
 use Rattle.policy_table.specs.declared.versions.TableVersion.TheVariants.{One, Two}
-use Rattle.policy_table.proofs.FaultCodes.{bad_first, code_append, first_append, first_listed, room_of, statement_five, statement_one, told_bad}
+use Rattle.policy_table.proofs.FaultCodes.{bad_first, code_append, first_append, first_listed, room_of, statement_five, statement_one, reported_bad}
 
 -- ---- options
 
@@ -62,25 +62,25 @@ range_later line None before = tt
 range_later line (Some at) before = omega (arith, before)
 
 -- if no range ends before it begins
-plain_more : (sizes : Maps) (rules : List PortRule) (own : PortRule) → rules_told sizes None (rules ++ own ∷ []) ≡ option_or (rules_told sizes None rules) (rule_told sizes own)
-plain_more sizes [] own = or_none (rule_told sizes own)
+plain_more : (sizes : Maps) (rules : List PortRule) (own : PortRule) → placed_rules_fault sizes None (rules ++ own ∷ []) ≡ option_or (placed_rules_fault sizes None rules) (placed_rule_fault sizes own)
+plain_more sizes [] own = or_none (placed_rule_fault sizes own)
 plain_more sizes (first ∷ rules) own =
-    ap (λ (o : Option TextFault). option_or (rule_told sizes first) o) (plain_more sizes rules own)
-    ∙ sym (or_assoc (rule_told sizes first) (rules_told sizes None rules) (rule_told sizes own))
+    ap (λ (o : Option TextFault). option_or (placed_rule_fault sizes first) o) (plain_more sizes rules own)
+    ∙ sym (or_assoc (placed_rule_fault sizes first) (placed_rules_fault sizes None rules) (placed_rule_fault sizes own))
 
 -- if one does, above the rule
-ranged_more : (sizes : Maps) (at : ℕ) (rules : List PortRule) (own : PortRule) → at < own.line → rules_told sizes (Some at) (rules ++ own ∷ []) ≡ rules_told sizes (Some at) rules
+ranged_more : (sizes : Maps) (at : ℕ) (rules : List PortRule) (own : PortRule) → at < own.line → placed_rules_fault sizes (Some at) (rules ++ own ∷ []) ≡ placed_rules_fault sizes (Some at) rules
 ranged_more sizes at [] own above = rw (lt-ltb at own.line above) refl
 ranged_more sizes at (first ∷ rules) own above =
-    ap (λ (o : Option TextFault). if nat_lt at first.line then Some (Line at wrong.RangeOrder) else option_or (rule_told sizes first) o) (ranged_more sizes at rules own above)
+    ap (λ (o : Option TextFault). if nat_lt at first.line then Some (Line at wrong.RangeOrder) else option_or (placed_rule_fault sizes first) o) (ranged_more sizes at rules own above)
 
 -- there is a fault
-ranged_some : (sizes : Maps) (at : ℕ) (rules : List PortRule) → (fault : TextFault) × (rules_told sizes (Some at) rules ≡ Some fault)
+ranged_some : (sizes : Maps) (at : ℕ) (rules : List PortRule) → (fault : TextFault) × (placed_rules_fault sizes (Some at) rules ≡ Some fault)
 ranged_some sizes at [] = (Line at wrong.RangeOrder, refl)
-ranged_some sizes at (first ∷ rules) = chosen (nat_lt at first.line) (rule_told sizes first) (ranged_some sizes at rules)
+ranged_some sizes at (first ∷ rules) = chosen (nat_lt at first.line) (placed_rule_fault sizes first) (ranged_some sizes at rules)
   where
-    chosen : (t : Bool) (o : Option TextFault) → (fault : TextFault) × (rules_told sizes (Some at) rules ≡ Some fault)
-        → (fault : TextFault) × ((if t then Some (Line at wrong.RangeOrder) else option_or o (rules_told sizes (Some at) rules)) ≡ Some fault)
+    chosen : (t : Bool) (o : Option TextFault) → (fault : TextFault) × (placed_rules_fault sizes (Some at) rules ≡ Some fault)
+        → (fault : TextFault) × ((if t then Some (Line at wrong.RangeOrder) else option_or o (placed_rules_fault sizes (Some at) rules)) ≡ Some fault)
     chosen true o rest = (Line at wrong.RangeOrder, refl)
     chosen false None rest = rest
     chosen false (Some fault) rest = (fault, refl)
@@ -89,37 +89,37 @@ not_later : (line other : ℕ) → other < line → nat_lt line other ≡ false
 not_later line other early = grind (arith, nat_tests, early)
 
 -- the first range that does, after all rules
-ranged_last : (sizes : Maps) (line : ℕ) (rules : List PortRule) → All (IsEarlier line) rules → rules_told sizes (Some line) rules ≡ option_or (rules_told sizes None rules) (Some (Line line wrong.RangeOrder))
+ranged_last : (sizes : Maps) (line : ℕ) (rules : List PortRule) → All (IsEarlier line) rules → placed_rules_fault sizes (Some line) rules ≡ option_or (placed_rules_fault sizes None rules) (Some (Line line wrong.RangeOrder))
 ranged_last sizes line [] before = refl
 ranged_last sizes line (first ∷ rules) before =
     let early : first.line < line = All-head (IsEarlier line) first rules before in
     let test : nat_lt line first.line ≡ false = not_later line first.line early in
     rw test
-    (ap (λ (o : Option TextFault). option_or (rule_told sizes first) o) (ranged_last sizes line rules (All-tail (IsEarlier line) first rules before))
-    ∙ sym (or_assoc (rule_told sizes first) (rules_told sizes None rules) (Some (Line line wrong.RangeOrder))))
+    (ap (λ (o : Option TextFault). option_or (placed_rule_fault sizes first) o) (ranged_last sizes line rules (All-tail (IsEarlier line) first rules before))
+    ∙ sym (or_assoc (placed_rule_fault sizes first) (placed_rules_fault sizes None rules) (Some (Line line wrong.RangeOrder))))
 
 -- a fault that is there stays the first
 same_first : (o p : Option TextFault) → (fault : TextFault) × (o ≡ Some fault) → option_or o p ≡ o
 same_first o p some = ap (λ (x : Option TextFault). option_or x p) some.1 ∙ sym some.1
 
-rule_more : (sizes : Maps) (reversed : Option ℕ) (rules : List PortRule) (own : PortRule) (line : ℕ) → own.line ≡ line → IsEarlierRange line reversed → rules_told sizes reversed (rules ++ own ∷ []) ≡ option_or (rules_told sizes reversed rules) (rule_told sizes own)
+rule_more : (sizes : Maps) (reversed : Option ℕ) (rules : List PortRule) (own : PortRule) (line : ℕ) → own.line ≡ line → IsEarlierRange line reversed → placed_rules_fault sizes reversed (rules ++ own ∷ []) ≡ option_or (placed_rules_fault sizes reversed rules) (placed_rule_fault sizes own)
 rule_more sizes None rules own line here before = plain_more sizes rules own
 rule_more sizes (Some at) rules own line here before =
-    ranged_more sizes at rules own (omega (arith, here, before)) ∙ sym (same_first (rules_told sizes (Some at) rules) (rule_told sizes own) (ranged_some sizes at rules))
+    ranged_more sizes at rules own (omega (arith, here, before)) ∙ sym (same_first (placed_rules_fault sizes (Some at) rules) (placed_rule_fault sizes own) (ranged_some sizes at rules))
 
-range_more : (sizes : Maps) (reversed : Option ℕ) (rules : List PortRule) (line : ℕ) → All (IsEarlier line) rules → rules_told sizes (option_or reversed (Some line)) rules ≡ option_or (rules_told sizes reversed rules) (Some (Line line wrong.RangeOrder))
+range_more : (sizes : Maps) (reversed : Option ℕ) (rules : List PortRule) (line : ℕ) → All (IsEarlier line) rules → placed_rules_fault sizes (option_or reversed (Some line)) rules ≡ option_or (placed_rules_fault sizes reversed rules) (Some (Line line wrong.RangeOrder))
 range_more sizes None rules line before = ranged_last sizes line rules before
-range_more sizes (Some at) rules line before = sym (same_first (rules_told sizes (Some at) rules) (Some (Line line wrong.RangeOrder)) (ranged_some sizes at rules))
+range_more sizes (Some at) rules line before = sym (same_first (placed_rules_fault sizes (Some at) rules) (Some (Line line wrong.RangeOrder)) (ranged_some sizes at rules))
 
 -- ---- lines that are not bad
 
 -- of lines before this one none is bad, and the faults are those of the table so far
 record IsClean (version : TableVersion) (sizes : Maps) (line : ℕ) (s : SurveyValue) : Type 0 where
   fine : first_of_code 5 s.faults ≡ None
-  long : (rest : List PortRule) → length_told version (s.draft.rules ++ rest) ≡ option_or (first_of_code 1 s.faults) (length_from version s.room rest)
-  short : first_of_code 1 s.faults ≡ None → first_of s.faults ≡ rules_told sizes s.draft.reversed s.draft.rules
-  rules : All (IsEarlier line) s.draft.rules
-  range : IsEarlierRange line s.draft.reversed
+  long : (rest : List PortRule) → length_fault version (s.partial_table.rules ++ rest) ≡ option_or (first_of_code 1 s.faults) (length_from version s.room rest)
+  short : first_of_code 1 s.faults ≡ None → first_text_fault s.faults ≡ placed_rules_fault sizes s.partial_table.reversed s.partial_table.rules
+  rules : All (IsEarlier line) s.partial_table.rules
+  range : IsEarlierRange line s.partial_table.reversed
 
 none_clean : (version : TableVersion) (sizes : Maps) (line : ℕ) → IsClean version sizes line (empty_survey version)
 none_clean version sizes line = record {
@@ -140,20 +140,20 @@ own_line One ranges line text own is = let (rule, port, named, here) = is in her
 own_line Two ranges line text own is = two_line ranges line (statement_words text) own is
 
 -- what the faults of one number come to after one line more
-one_more : (version : TableVersion) (sizes : Maps) (line : ℕ) (statement : Statement) (s : SurveyValue) → first_of_code 1 (with_statement version sizes line statement s).faults ≡ option_or (first_of_code 1 s.faults) (room_of version s.room statement)
+one_more : (version : TableVersion) (sizes : Maps) (line : ℕ) (statement : TableStatement) (s : SurveyValue) → first_of_code 1 (with_statement version sizes line statement s).faults ≡ option_or (first_of_code 1 s.faults) (room_of version s.room statement)
 one_more version sizes line statement s =
     code_append 1 s.faults (statement_faults version sizes s.room line statement)
     ∙ ap (λ (o : Option TextFault). option_or (first_of_code 1 s.faults) o) (statement_one version sizes s.room line statement)
 
-fine_more : (version : TableVersion) (sizes : Maps) (line : ℕ) (statement : Statement) (s : SurveyValue) → first_of_code 5 s.faults ≡ None → first_of_code 5 (with_statement version sizes line statement s).faults ≡ None
+fine_more : (version : TableVersion) (sizes : Maps) (line : ℕ) (statement : TableStatement) (s : SurveyValue) → first_of_code 5 s.faults ≡ None → first_of_code 5 (with_statement version sizes line statement s).faults ≡ None
 fine_more version sizes line statement s fine =
     code_append 5 s.faults (statement_faults version sizes s.room line statement)
     ∙ ap (λ (o : Option TextFault). option_or o (first_of_code 5 (statement_faults version sizes s.room line statement))) fine
     ∙ statement_five version sizes s.room line statement
 
 -- if no rule is said
-long_same : (version : TableVersion) (sizes : Maps) (line : ℕ) (statement : Statement) (s : SurveyValue) (rest : List PortRule) → room_of version s.room statement ≡ None → length_told version (s.draft.rules ++ rest) ≡ option_or (first_of_code 1 s.faults) (length_from version s.room rest)
-    → length_told version (s.draft.rules ++ rest) ≡ option_or (first_of_code 1 (with_statement version sizes line statement s).faults) (length_from version s.room rest)
+long_same : (version : TableVersion) (sizes : Maps) (line : ℕ) (statement : TableStatement) (s : SurveyValue) (rest : List PortRule) → room_of version s.room statement ≡ None → length_fault version (s.partial_table.rules ++ rest) ≡ option_or (first_of_code 1 s.faults) (length_from version s.room rest)
+    → length_fault version (s.partial_table.rules ++ rest) ≡ option_or (first_of_code 1 (with_statement version sizes line statement s).faults) (length_from version s.room rest)
 long_same version sizes line statement s rest room long =
     let same : first_of_code 1 (with_statement version sizes line statement s).faults ≡ first_of_code 1 s.faults =
     one_more version sizes line statement s ∙ ap (λ (o : Option TextFault). option_or (first_of_code 1 s.faults) o) room ∙ or_none (first_of_code 1 s.faults) in
@@ -161,36 +161,36 @@ long_same version sizes line statement s rest room long =
 
 -- if one is
 long_more : (version : TableVersion) (sizes : Maps) (line : ℕ) (own : PortRule) (s : SurveyValue) (rest : List PortRule)
-    → ((left : List PortRule) → length_told version (s.draft.rules ++ left) ≡ option_or (first_of_code 1 s.faults) (length_from version s.room left))
-    → length_told version ((s.draft.rules ++ own ∷ []) ++ rest) ≡ option_or (first_of_code 1 (with_statement version sizes line (says.Rule own) s).faults) (length_from version (room_after version s.room own) rest)
+    → ((left : List PortRule) → length_fault version (s.partial_table.rules ++ left) ≡ option_or (first_of_code 1 s.faults) (length_from version s.room left))
+    → length_fault version ((s.partial_table.rules ++ own ∷ []) ++ rest) ≡ option_or (first_of_code 1 (with_statement version sizes line (says.Rule own) s).faults) (length_from version (room_after version s.room own) rest)
 long_more version sizes line own s rest long =
     let left : Option TextFault = length_from version (room_after version s.room own) rest in
-    ap (λ (rules : List PortRule). length_told version rules) (append_assoc s.draft.rules (own ∷ []) rest)
+    ap (λ (rules : List PortRule). length_fault version rules) (append_assoc s.partial_table.rules (own ∷ []) rest)
     ∙ long (own ∷ rest)
-    ∙ sym (or_assoc (first_of_code 1 s.faults) (room_told version s.room own) left)
+    ∙ sym (or_assoc (first_of_code 1 s.faults) (room_fault version s.room own) left)
     ∙ ap (λ (o : Option TextFault). option_or o left) (sym (one_more version sizes line (says.Rule own) s))
 
 -- what the first fault comes to after a line of which this is the first
-first_more : (version : TableVersion) (sizes : Maps) (line : ℕ) (statement : Statement) (s : SurveyValue) (own : Option TextFault) → first_of (statement_faults version sizes s.room line statement) ≡ own
-    → first_of (with_statement version sizes line statement s).faults ≡ option_or (first_of s.faults) own
+first_more : (version : TableVersion) (sizes : Maps) (line : ℕ) (statement : TableStatement) (s : SurveyValue) (own : Option TextFault) → first_text_fault (statement_faults version sizes s.room line statement) ≡ own
+    → first_text_fault (with_statement version sizes line statement s).faults ≡ option_or (first_text_fault s.faults) own
 first_more version sizes line statement s own is =
-    first_append s.faults (statement_faults version sizes s.room line statement) ∙ ap (λ (o : Option TextFault). option_or (first_of s.faults) o) is
+    first_append s.faults (statement_faults version sizes s.room line statement) ∙ ap (λ (o : Option TextFault). option_or (first_text_fault s.faults) o) is
 
 nothing_clean : (version : TableVersion) (sizes : Maps) (line : ℕ) (s : SurveyValue) → IsClean version sizes line s → IsClean version sizes (suc line) (with_statement version sizes line says.Nothing s)
 nothing_clean version sizes line s clean = record {
   fine = fine_more version sizes line says.Nothing s clean.fine;
   long = λ rest. long_same version sizes line says.Nothing s rest refl (clean.long rest);
   short = λ none.
-      first_more version sizes line says.Nothing s None refl ∙ or_none (first_of s.faults)
+      first_more version sizes line says.Nothing s None refl ∙ or_none (first_text_fault s.faults)
       ∙ clean.short (none_left (first_of_code 1 s.faults) None (sym (one_more version sizes line says.Nothing s) ∙ none));
-  rules = one_later line s.draft.rules clean.rules;
-  range = range_later line s.draft.reversed clean.range;
+  rules = one_later line s.partial_table.rules clean.rules;
+  range = range_later line s.partial_table.reversed clean.range;
 }
 
 range_first : (sizes : Maps) (line : ℕ) (reversed : Bool) (earlier : Option ℕ) (rules : List PortRule) → All (IsEarlier line) rules
-    → option_or (rules_told sizes earlier rules) (reversed_told (reversed_at line reversed)) ≡ rules_told sizes (first_reversed earlier reversed line) rules
+    → option_or (placed_rules_fault sizes earlier rules) (reversed_fault (reversed_at line reversed)) ≡ placed_rules_fault sizes (first_reversed earlier reversed line) rules
 range_first sizes line true earlier rules before = sym (range_more sizes earlier rules line before)
-range_first sizes line false earlier rules before = or_none (rules_told sizes earlier rules)
+range_first sizes line false earlier rules before = or_none (placed_rules_fault sizes earlier rules)
 
 range_kept : (line : ℕ) (reversed : Bool) (earlier : Option ℕ) → IsEarlierRange line earlier → IsEarlierRange (suc line) (first_reversed earlier reversed line)
 range_kept line true None before = omega arith
@@ -199,39 +199,39 @@ range_kept line false earlier before = range_later line earlier before
 
 range_clean : (version : TableVersion) (sizes : Maps) (line : ℕ) (range : NamedRange) (reversed : Bool) (s : SurveyValue) → IsClean version sizes line s → IsClean version sizes (suc line) (with_statement version sizes line (says.Range range reversed) s)
 range_clean version sizes line range reversed s clean =
-    let said : Statement = says.Range range reversed in record {
+    let said : TableStatement = says.Range range reversed in record {
       fine = fine_more version sizes line said s clean.fine;
       long = λ rest. long_same version sizes line said s rest refl (clean.long rest);
       short = λ none.
-          first_more version sizes line said s (reversed_told (reversed_at line reversed)) (first_listed (reversed_told (reversed_at line reversed)))
-          ∙ ap (λ (o : Option TextFault). option_or o (reversed_told (reversed_at line reversed))) (clean.short (none_left (first_of_code 1 s.faults) None (sym (one_more version sizes line said s) ∙ none)))
-          ∙ range_first sizes line reversed s.draft.reversed s.draft.rules clean.rules;
-      rules = one_later line s.draft.rules clean.rules;
-      range = range_kept line reversed s.draft.reversed clean.range;
+          first_more version sizes line said s (reversed_fault (reversed_at line reversed)) (first_listed (reversed_fault (reversed_at line reversed)))
+          ∙ ap (λ (o : Option TextFault). option_or o (reversed_fault (reversed_at line reversed))) (clean.short (none_left (first_of_code 1 s.faults) None (sym (one_more version sizes line said s) ∙ none)))
+          ∙ range_first sizes line reversed s.partial_table.reversed s.partial_table.rules clean.rules;
+      rules = one_later line s.partial_table.rules clean.rules;
+      range = range_kept line reversed s.partial_table.reversed clean.range;
     }
 
-rule_first : (version : TableVersion) (sizes : Maps) (room : Option Room) (own : PortRule) → room_told version room own ≡ None → first_of (listed (room_told version room own) ++ listed (rule_told sizes own)) ≡ rule_told sizes own
+rule_first : (version : TableVersion) (sizes : Maps) (room : Option Room) (own : PortRule) → room_fault version room own ≡ None → first_text_fault (listed (room_fault version room own) ++ listed (placed_rule_fault sizes own)) ≡ placed_rule_fault sizes own
 rule_first version sizes room own none =
-    ap (λ (o : Option TextFault). first_of (listed o ++ listed (rule_told sizes own))) none ∙ first_listed (rule_told sizes own)
+    ap (λ (o : Option TextFault). first_text_fault (listed o ++ listed (placed_rule_fault sizes own))) none ∙ first_listed (placed_rule_fault sizes own)
 
 rule_clean : (version : TableVersion) (sizes : Maps) (line : ℕ) (own : PortRule) (s : SurveyValue) → own.line ≡ line → IsClean version sizes line s → IsClean version sizes (suc line) (with_statement version sizes line (says.Rule own) s)
 rule_clean version sizes line own s here clean =
-    let said : Statement = says.Rule own in record {
+    let said : TableStatement = says.Rule own in record {
       fine = fine_more version sizes line said s clean.fine;
       long = λ rest. long_more version sizes line own s rest clean.long;
       short = λ none.
-          let both : option_or (first_of_code 1 s.faults) (room_told version s.room own) ≡ None = sym (one_more version sizes line said s) ∙ none in
-          first_more version sizes line said s (rule_told sizes own) (rule_first version sizes s.room own (none_right (first_of_code 1 s.faults) (room_told version s.room own) both))
-          ∙ ap (λ (o : Option TextFault). option_or o (rule_told sizes own)) (clean.short (none_left (first_of_code 1 s.faults) (room_told version s.room own) both))
-          ∙ sym (rule_more sizes s.draft.reversed s.draft.rules own line here clean.range);
-      rules = All-push (IsEarlier (suc line)) s.draft.rules own (one_later line s.draft.rules clean.rules) (omega (arith, here));
-      range = range_later line s.draft.reversed clean.range;
+          let both : option_or (first_of_code 1 s.faults) (room_fault version s.room own) ≡ None = sym (one_more version sizes line said s) ∙ none in
+          first_more version sizes line said s (placed_rule_fault sizes own) (rule_first version sizes s.room own (none_right (first_of_code 1 s.faults) (room_fault version s.room own) both))
+          ∙ ap (λ (o : Option TextFault). option_or o (placed_rule_fault sizes own)) (clean.short (none_left (first_of_code 1 s.faults) (room_fault version s.room own) both))
+          ∙ sym (rule_more sizes s.partial_table.reversed s.partial_table.rules own line here clean.range);
+      rules = All-push (IsEarlier (suc line)) s.partial_table.rules own (one_later line s.partial_table.rules clean.rules) (omega (arith, here));
+      range = range_later line s.partial_table.reversed clean.range;
     }
 
-statement_clean : (version : TableVersion) (sizes : Maps) (line : ℕ) (text : List ℕ) (statement : Statement) (s : SurveyValue) → IsStatement version s.draft.ranges line text statement → IsClean version sizes line s → IsClean version sizes (suc line) (with_statement version sizes line statement s)
+statement_clean : (version : TableVersion) (sizes : Maps) (line : ℕ) (text : List ℕ) (statement : TableStatement) (s : SurveyValue) → IsStatement version s.partial_table.ranges line text statement → IsClean version sizes line s → IsClean version sizes (suc line) (with_statement version sizes line statement s)
 statement_clean version sizes line text says.Nothing s is clean = nothing_clean version sizes line s clean
 statement_clean version sizes line text (says.Range range reversed) s is clean = range_clean version sizes line range reversed s clean
-statement_clean version sizes line text (says.Rule own) s is clean = rule_clean version sizes line own s (own_line version s.draft.ranges line text own is) clean
+statement_clean version sizes line text (says.Rule own) s is clean = rule_clean version sizes line own s (own_line version s.partial_table.ranges line text own is) clean
 
 -- ---- all lines
 
@@ -254,31 +254,31 @@ lines_keep version sizes line (text ∷ lines) old new fault finds is =
 -- its number
 abbrev IsRead : TableVersion → Maps → (line : ℕ) → List (List ℕ) → (old new : SurveyValue) → Type 0
 IsRead version sizes line lines old new =
-    ((at : ℕ) × LinesWrite version line lines old.draft new.draft × IsClean version sizes at new)
-    ⊎ ((fault : TextFault) × HasBadLine version line lines old.draft fault × (first_of_code 5 new.faults ≡ Some fault))
+    ((at : ℕ) × LinesWrite version line lines old.partial_table new.partial_table × IsClean version sizes at new)
+    ⊎ ((fault : TextFault) × HasBadLine version line lines old.partial_table fault × (first_of_code 5 new.faults ≡ Some fault))
 
 bad_read : (version : TableVersion) (sizes : Maps) (line : ℕ) (text : List ℕ) (lines : List (List ℕ)) (old next new : SurveyValue) → FindsBad version line text old next → FindsLines version sizes (suc line) lines next new → first_of_code 5 old.faults ≡ None → IsRead version sizes line (text ∷ lines) old new
 bad_read version sizes line text lines old next new bad finds fine =
     let fault : TextFault = Line line bad.fault in
     let here : first_of_code 5 (old.faults ++ fault ∷ []) ≡ Some fault =
-    code_append 5 old.faults (fault ∷ []) ∙ ap (λ (o : Option TextFault). option_or o (first_of_code 5 (fault ∷ []))) fine ∙ bad_first line bad.fault (told_bad version old.draft.ranges text bad.fault bad.is) in
+    code_append 5 old.faults (fault ∷ []) ∙ ap (λ (o : Option TextFault). option_or o (first_of_code 5 (fault ∷ []))) fine ∙ bad_first line bad.fault (reported_bad version old.partial_table.ranges text bad.fault bad.is) in
     inr (fault, inl (refl, bad.is), lines_keep version sizes (suc line) lines next new fault finds (subst (λ (s : SurveyValue). first_of_code 5 s.faults ≡ Some fault) (sym bad.found) here))
 
-then_read : (version : TableVersion) (sizes : Maps) (line : ℕ) (text : List ℕ) (lines : List (List ℕ)) (old next new : SurveyValue) → TakesLine version line text old.draft next.draft → IsRead version sizes (suc line) lines next new → IsRead version sizes line (text ∷ lines) old new
-then_read version sizes line text lines old next new takes (inl read) = inl (read.0, (next.draft, takes, read.1), read.2)
-then_read version sizes line text lines old next new takes (inr bad) = inr (bad.0, inr (next.draft, takes, bad.1), bad.2)
+then_read : (version : TableVersion) (sizes : Maps) (line : ℕ) (text : List ℕ) (lines : List (List ℕ)) (old next new : SurveyValue) → TakesLine version line text old.partial_table next.partial_table → IsRead version sizes (suc line) lines next new → IsRead version sizes line (text ∷ lines) old new
+then_read version sizes line text lines old next new takes (inl read) = inl (read.0, (next.partial_table, takes, read.1), read.2)
+then_read version sizes line text lines old next new takes (inr bad) = inr (bad.0, inr (next.partial_table, takes, bad.1), bad.2)
 
 line_read : (version : TableVersion) (sizes : Maps) (line : ℕ) (text : List ℕ) (lines : List (List ℕ)) (old next new : SurveyValue) → FindsLine version sizes line text old next → FindsLines version sizes (suc line) lines next new → IsClean version sizes line old
     → (IsClean version sizes (suc line) next → IsRead version sizes (suc line) lines next new) → IsRead version sizes line (text ∷ lines) old new
 line_read version sizes line text lines old next new (inl stated) finds clean later =
-    let takes : TakesLine version line text old.draft next.draft = record { statement = stated.statement; is = stated.is; taken = ap (λ (s : SurveyValue). s.draft) stated.found } in
+    let takes : TakesLine version line text old.partial_table next.partial_table = record { statement = stated.statement; is = stated.is; taken = ap (λ (s : SurveyValue). s.partial_table) stated.found } in
     let more : IsClean version sizes (suc line) next = subst (λ (s : SurveyValue). IsClean version sizes (suc line) s) (sym stated.found) (statement_clean version sizes line text stated.statement old stated.is clean) in
     then_read version sizes line text lines old next new takes (later more)
 line_read version sizes line text lines old next new (inr bad) finds clean later = bad_read version sizes line text lines old next new bad finds clean.fine
 
 lines_read : (version : TableVersion) (sizes : Maps) (line : ℕ) (lines : List (List ℕ)) (old new : SurveyValue) → FindsLines version sizes line lines old new → IsClean version sizes line old → IsRead version sizes line lines old new
 lines_read version sizes line [] old new finds clean =
-    inl (line, ap (λ (s : SurveyValue). s.draft) finds, subst (λ (s : SurveyValue). IsClean version sizes line s) (sym finds) clean)
+    inl (line, ap (λ (s : SurveyValue). s.partial_table) finds, subst (λ (s : SurveyValue). IsClean version sizes line s) (sym finds) clean)
 lines_read version sizes line (text ∷ lines) old new finds clean =
     line_read version sizes line text lines old finds.0 new finds.1 finds.2 clean (λ more. lines_read version sizes (suc line) lines finds.0 new finds.2 more)
 
@@ -289,30 +289,30 @@ first_same None f g same = same refl
 first_same (Some fault) f g same = refl
 
 -- of lines that are read it is that of the table
-clean_same : (version : TableVersion) (sizes : Maps) (at : ℕ) (s : SurveyValue) → IsClean version sizes at s → reported s.faults ≡ policy_fault sizes (policy_value version s.draft.reversed s.draft.rules)
+clean_same : (version : TableVersion) (sizes : Maps) (at : ℕ) (s : SurveyValue) → IsClean version sizes at s → reported_fault s.faults ≡ policy_fault sizes (policy_value version s.partial_table.reversed s.partial_table.rules)
 clean_same version sizes at s clean =
-    let long : length_told version s.draft.rules ≡ first_of_code 1 s.faults =
-    ap (λ (rules : List PortRule). length_told version rules) (sym (append-nil s.draft.rules)) ∙ clean.long [] ∙ or_none (first_of_code 1 s.faults) in
-    ap (λ (o : Option TextFault). option_or o (option_or (first_of_code 1 s.faults) (first_of s.faults))) clean.fine
-    ∙ first_same (first_of_code 1 s.faults) (first_of s.faults) (rules_told sizes s.draft.reversed s.draft.rules) clean.short
-    ∙ ap (λ (o : Option TextFault). option_or o (rules_told sizes s.draft.reversed s.draft.rules)) (sym long)
+    let long : length_fault version s.partial_table.rules ≡ first_of_code 1 s.faults =
+    ap (λ (rules : List PortRule). length_fault version rules) (sym (append-nil s.partial_table.rules)) ∙ clean.long [] ∙ or_none (first_of_code 1 s.faults) in
+    ap (λ (o : Option TextFault). option_or o (option_or (first_of_code 1 s.faults) (first_text_fault s.faults))) clean.fine
+    ∙ first_same (first_of_code 1 s.faults) (first_text_fault s.faults) (placed_rules_fault sizes s.partial_table.reversed s.partial_table.rules) clean.short
+    ∙ ap (λ (o : Option TextFault). option_or o (placed_rules_fault sizes s.partial_table.reversed s.partial_table.rules)) (sym long)
 
 table_reported : (sizes : Maps) (lines : List (List ℕ)) (policy : PolicyValue) (o : Option TextFault) → WritesPolicy lines policy → policy_fault sizes policy ≡ o → IsReported sizes lines o
 table_reported sizes lines policy None writes is = (policy, writes, is)
 table_reported sizes lines policy (Some fault) writes is = inr (policy, writes, is)
 
-end_reported : (sizes : Maps) (lines : List (List ℕ)) (how : ReadingValue) (end : SurveyValue) → reading_of lines ≡ how → IsRead how.version sizes (suc how.before) how.lines (empty_survey how.version) end → IsReported sizes lines (reported end.faults)
+end_reported : (sizes : Maps) (lines : List (List ℕ)) (how : ReadingValue) (end : SurveyValue) → policy_reading_of lines ≡ how → IsRead how.version sizes (suc how.before) how.lines (empty_survey how.version) end → IsReported sizes lines (reported_fault end.faults)
 end_reported sizes lines how end is (inl read) =
-    let policy : PolicyValue = policy_value how.version end.draft.reversed end.draft.rules in
-    let writes : WritesReading how policy = record { end = end.draft; are = read.1; is = refl } in
-    table_reported sizes lines policy (reported end.faults) (subst (λ (h : ReadingValue). WritesReading h policy) (sym is) writes) (sym (clean_same how.version sizes read.0 end read.2))
+    let policy : PolicyValue = policy_value how.version end.partial_table.reversed end.partial_table.rules in
+    let writes : WritesReading how policy = record { end = end.partial_table; are = read.1; is = refl } in
+    table_reported sizes lines policy (reported_fault end.faults) (subst (λ (h : ReadingValue). WritesReading h policy) (sym is) writes) (sym (clean_same how.version sizes read.0 end read.2))
 end_reported sizes lines how end is (inr bad) =
-    subst (λ (o : Option TextFault). IsReported sizes lines o) (sym (ap (λ (o : Option TextFault). option_or o (option_or (first_of_code 1 end.faults) (first_of end.faults))) bad.2))
-    (inl (subst (λ (h : ReadingValue). HasBadLine h.version (suc h.before) h.lines empty_draft bad.0) (sym is) bad.1))
+    subst (λ (o : Option TextFault). IsReported sizes lines o) (sym (ap (λ (o : Option TextFault). option_or o (option_or (first_of_code 1 end.faults) (first_text_fault end.faults))) bad.2))
+    (inl (subst (λ (h : ReadingValue). HasBadLine h.version (suc h.before) h.lines empty_partial_table bad.0) (sym is) bad.1))
 
 -- of all faults of lines
-pub is_reported : (sizes : Maps) (lines : List (List ℕ)) (faults : List TextFault) → AreFaults sizes lines faults → IsReported sizes lines (reported faults)
+pub is_reported : (sizes : Maps) (lines : List (List ℕ)) (faults : List TextFault) → AreFaults sizes lines faults → IsReported sizes lines (reported_fault faults)
 is_reported sizes lines faults all =
-    let how : ReadingValue = reading_of lines in
-    subst (λ (fs : List TextFault). IsReported sizes lines (reported fs)) (sym all.are)
+    let how : ReadingValue = policy_reading_of lines in
+    subst (λ (fs : List TextFault). IsReported sizes lines (reported_fault fs)) (sym all.are)
     (end_reported sizes lines how all.end refl (lines_read how.version sizes (suc how.before) how.lines (empty_survey how.version) all.end all.found (none_clean how.version sizes (suc how.before))))

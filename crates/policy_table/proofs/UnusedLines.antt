@@ -6,7 +6,7 @@ use Rattle.std.specs.Option.{option_or}
 use Rattle.std.specs.Str.{bytes_eq}
 use Rattle.policy_table.specs.Ranges.{place_in}
 use Rattle.std.proofs.lemmas.List.{append_assoc}
-use Rattle.policy_table.specs.Unused.{AreUsed, has_name, is_named_by_none, is_unused, is_word, number_if, unused_from}
+use Rattle.policy_table.specs.Unused.{AreUsed, has_name, is_named_by_none, is_unused, is_this_word, number_if, unused_from}
 
 -- what is found in a line and in those after it comes after what was found before
 pub more_unused : (all lines : List (List ℕ)) (line : List ℕ) (rest : List (List ℕ)) (number next : ℕ) (before after whole : List ℕ) → lines ≡ line ∷ rest → next ≡ suc number
@@ -34,10 +34,10 @@ or_false false = refl
 
 -- one word more
 pub used_more : (entries after : Entries) (word name : List ℕ) (number : ℕ) → place_in after name ≡ option_or (place_in entries name) (cond (bytes_eq word name) (Some number) None)
-    → is_some (place_in after name) ≡ (is_some (place_in entries name) || is_word (Some word) name)
+    → is_some (place_in after name) ≡ (is_some (place_in entries name) || is_this_word (Some word) name)
 used_more entries after word name number added = ap (λ (o : Option ℕ). is_some o) added ∙ or_some (place_in entries name) (bytes_eq word name) number
 
-pub used_same : (entries : Entries) (name : List ℕ) → is_some (place_in entries name) ≡ (is_some (place_in entries name) || is_word None name)
+pub used_same : (entries : Entries) (name : List ℕ) → is_some (place_in entries name) ≡ (is_some (place_in entries name) || is_this_word None name)
 used_same entries name = or_false (is_some (place_in entries name))
 
 joined : (a b c : Bool) → ((a || b) || c) ≡ (a || (b || c))

@@ -7,10 +7,10 @@ use Rattle.machine.specs.declared.calls.Call.{Call}
 use Rattle.machine.specs.Memory.{Header}
 use Rattle.rmap.specs.Verdict.{verdict_number}
 use Rattle.rmap.specs.declared.verdict.Verdict.{Verdict}
-use Rattle.policy_table.specs.Matching.{MatchDecides, behind, first_match, match_by, matched, no_match}
-use Rattle.policy_table.specs.Meaning.{decision, draw, holds, ruled, told_by}
-use Rattle.policy_table.specs.Tickets.{left_behind, ticket_before, tickets_given}
-use Rattle.policy_table.specs.Walked.{IsWalked, told}
+use Rattle.policy_table.specs.Matching.{MatchDecides, following, first_match, match_by, matched, no_match}
+use Rattle.policy_table.specs.Meaning.{decision, draw, holds, ruled, answers_in_turn}
+use Rattle.policy_table.specs.Tickets.{tickets_left, ticket_before, tickets_given}
+use Rattle.policy_table.specs.Walked.{IsWalked, reported}
 use Rattle.policy_table.specs.declared.matching.Match.{Match}
 use Rattle.policy_table.specs.declared.rules.Quota.{Quota}
 use Rattle.policy_table.specs.declared.rules.Rule.{Rule}
@@ -27,7 +27,7 @@ module _ {S : Type 0} (next : S → (map cell : ℕ) → ℕ) (leaves : S → (m
 
   -- a walk after one rule more
   abbrev pub later : (Walk S) → (Walk S)
-  later w = walk_with w.calls (behind 1 w.found) w.left
+  later w = walk_with w.calls (following 1 w.found) w.left
 
   -- a rule whose conditions hold, before a walk over the rest
   abbrev pub walk_by : Option Quota → Verdict → (counts : S) → (rest : S → (Walk S)) → (Walk S)
@@ -35,7 +35,7 @@ module _ {S : Type 0} (next : S → (map cell : ℕ) → ℕ) (leaves : S → (m
   walk_by (Some quota) verdict counts rest =
       if nat_lt (next counts quota.map quota.cell) quota.limit
       then walk_with (draw quota (next counts quota.map quota.cell) ∷ []) (first_match 1 (Some (draw quota (next counts quota.map quota.cell))) verdict) (leaves counts quota.map quota.cell)
-      else walk_with (draw quota (next counts quota.map quota.cell) ∷ (rest (leaves counts quota.map quota.cell)).calls) (behind 1 (rest (leaves counts quota.map quota.cell)).found) (rest (leaves counts quota.map quota.cell)).left
+      else walk_with (draw quota (next counts quota.map quota.cell) ∷ (rest (leaves counts quota.map quota.cell)).calls) (following 1 (rest (leaves counts quota.map quota.cell)).found) (rest (leaves counts quota.map quota.cell)).left
 
   abbrev pub walk : List Rule → Header → S → (Walk S)
   walk [] header counts = walk_with [] no_match counts
@@ -47,41 +47,41 @@ module _ {S : Type 0} (next : S → (map cell : ℕ) → ℕ) (leaves : S → (m
   -- ---- it is the decision
 
   -- the walk of a decision
-  abbrev told_walk : (counts : S) → List Call × ℕ → Match → (Walk S)
-  told_walk counts d m = walk_with d.0 m (left_behind leaves counts d.0)
+  abbrev reported_walk : (counts : S) → List Call × ℕ → Match → (Walk S)
+  reported_walk counts d m = walk_with d.0 m (tickets_left leaves counts d.0)
 
   abbrev decided_walk : List Rule → Header → S → (Walk S)
-  decided_walk rules header counts = told_walk counts (decision rules header (told next leaves rules header counts)) (matched rules header (told next leaves rules header counts))
+  decided_walk rules header counts = reported_walk counts (decision rules header (reported next leaves rules header counts)) (matched rules header (reported next leaves rules header counts))
 
   drawn_step : (t : Bool) (quota : Quota) (verdict : Verdict) (counts : S) (w : (Walk S)) (d : List Call × ℕ) (m : Match)
-      → w ≡ told_walk (leaves counts quota.map quota.cell) d m
-      → (if t then walk_with (draw quota (next counts quota.map quota.cell) ∷ []) (first_match 1 (Some (draw quota (next counts quota.map quota.cell))) verdict) (leaves counts quota.map quota.cell) else walk_with (draw quota (next counts quota.map quota.cell) ∷ w.calls) (behind 1 w.found) w.left)
-      ≡ told_walk counts (if t then (draw quota (next counts quota.map quota.cell) ∷ [], verdict_number verdict) else (draw quota (next counts quota.map quota.cell) ∷ d.0, d.1)) (if t then first_match 1 (Some (draw quota (next counts quota.map quota.cell))) verdict else behind 1 m)
+      → w ≡ reported_walk (leaves counts quota.map quota.cell) d m
+      → (if t then walk_with (draw quota (next counts quota.map quota.cell) ∷ []) (first_match 1 (Some (draw quota (next counts quota.map quota.cell))) verdict) (leaves counts quota.map quota.cell) else walk_with (draw quota (next counts quota.map quota.cell) ∷ w.calls) (following 1 w.found) w.left)
+      ≡ reported_walk counts (if t then (draw quota (next counts quota.map quota.cell) ∷ [], verdict_number verdict) else (draw quota (next counts quota.map quota.cell) ∷ d.0, d.1)) (if t then first_match 1 (Some (draw quota (next counts quota.map quota.cell))) verdict else following 1 m)
   drawn_step true quota verdict counts w d m is = refl
   drawn_step false quota verdict counts w d m is =
-      ap (λ (v : (Walk S)). walk_with (draw quota (next counts quota.map quota.cell) ∷ v.calls) (behind 1 v.found) v.left) is
+      ap (λ (v : (Walk S)). walk_with (draw quota (next counts quota.map quota.cell) ∷ v.calls) (following 1 v.found) v.left) is
 
   held_step : (quota : Option Quota) (verdict : Verdict) (counts : S) (rules : List Rule) (header : Header)
       → ((after : S) → walk rules header after ≡ decided_walk rules header after)
       → walk_by quota verdict counts (λ after. walk rules header after)
-      ≡ told_walk counts
-      (ruled quota (verdict_number verdict) (told_by (ticket_before next leaves quota counts (λ after. tickets_given next leaves rules header after))) (decision rules header (λ k. told_by (ticket_before next leaves quota counts (λ after. tickets_given next leaves rules header after)) (suc k))))
-      (match_by quota verdict (told_by (ticket_before next leaves quota counts (λ after. tickets_given next leaves rules header after))) (matched rules header (λ k. told_by (ticket_before next leaves quota counts (λ after. tickets_given next leaves rules header after)) (suc k))))
+      ≡ reported_walk counts
+      (ruled quota (verdict_number verdict) (answers_in_turn (ticket_before next leaves quota counts (λ after. tickets_given next leaves rules header after))) (decision rules header (λ k. answers_in_turn (ticket_before next leaves quota counts (λ after. tickets_given next leaves rules header after)) (suc k))))
+      (match_by quota verdict (answers_in_turn (ticket_before next leaves quota counts (λ after. tickets_given next leaves rules header after))) (matched rules header (λ k. answers_in_turn (ticket_before next leaves quota counts (λ after. tickets_given next leaves rules header after)) (suc k))))
   held_step None verdict counts rules header all = refl
   held_step (Some quota) verdict counts rules header all =
       let after : S = leaves counts quota.map quota.cell in
-      drawn_step (nat_lt (next counts quota.map quota.cell) quota.limit) quota verdict counts (walk rules header after) (decision rules header (told next leaves rules header after)) (matched rules header (told next leaves rules header after)) (all after)
+      drawn_step (nat_lt (next counts quota.map quota.cell) quota.limit) quota verdict counts (walk rules header after) (decision rules header (reported next leaves rules header after)) (matched rules header (reported next leaves rules header after)) (all after)
 
   abbrev tickets_if : Bool → Rule → List Rule → Header → S → ℕ → ℕ
   tickets_if t rule rules header counts =
-      told_by (if t then ticket_before next leaves rule.quota counts (λ after. tickets_given next leaves rules header after) else tickets_given next leaves rules header counts)
+      answers_in_turn (if t then ticket_before next leaves rule.quota counts (λ after. tickets_given next leaves rules header after) else tickets_given next leaves rules header counts)
 
   rule_step : (t : Bool) (rule : Rule) (rules : List Rule) (header : Header) (counts : S)
       → ((after : S) → walk rules header after ≡ decided_walk rules header after)
       → (if t then walk_by rule.quota rule.verdict counts (λ after. walk rules header after) else later (walk rules header counts))
-      ≡ told_walk counts
+      ≡ reported_walk counts
       (if t then ruled rule.quota (verdict_number rule.verdict) (tickets_if t rule rules header counts) (decision rules header (λ k. tickets_if t rule rules header counts (suc k))) else decision rules header (tickets_if t rule rules header counts))
-      (if t then match_by rule.quota rule.verdict (tickets_if t rule rules header counts) (matched rules header (λ k. tickets_if t rule rules header counts (suc k))) else behind 1 (matched rules header (tickets_if t rule rules header counts)))
+      (if t then match_by rule.quota rule.verdict (tickets_if t rule rules header counts) (matched rules header (λ k. tickets_if t rule rules header counts (suc k))) else following 1 (matched rules header (tickets_if t rule rules header counts)))
   rule_step true rule rules header counts all = held_step rule.quota rule.verdict counts rules header all
   rule_step false rule rules header counts all = ap later (all counts)
 
@@ -94,8 +94,8 @@ module _ {S : Type 0} (next : S → (map cell : ℕ) → ℕ) (leaves : S → (m
   -- ---- rule by rule
 
   -- a match after this many rules and one more
-  behind_more : (n : ℕ) (m : Match) → behind n (behind 1 m) ≡ behind (n + 1) m
-  behind_more n m = ap (λ (r : Option ℕ). record { rule = r; ticket = m.ticket; verdict = m.verdict }) (moved n m.rule)
+  after_more : (n : ℕ) (m : Match) → following n (following 1 m) ≡ following (n + 1) m
+  after_more n m = ap (λ (r : Option ℕ). record { rule = r; ticket = m.ticket; verdict = m.verdict }) (moved n m.rule)
     where
       moved : (n : ℕ) (r : Option ℕ) → option_map (λ k. n + k) (option_map (λ k. 1 + k) r) ≡ option_map (λ k. n + 1 + k) r
       moved n None = refl
@@ -104,12 +104,12 @@ module _ {S : Type 0} (next : S → (map cell : ℕ) → ℕ) (leaves : S → (m
   -- so far these calls and counts, and what is left is a walk over the rules from this one on
   pub record IsOnWay (rules : List Rule) (header : Header) (first : List Call) (counts : S) (n : ℕ) (calls : List Call) (now : S) : Type 0 where
     pub calls_are : first ++ (walk rules header counts).calls ≡ calls ++ (walk (drop n rules) header now).calls
-    pub found : (walk rules header counts).found ≡ behind n (walk (drop n rules) header now).found
+    pub found : (walk rules header counts).found ≡ following n (walk (drop n rules) header now).found
     pub counts_are : (walk rules header counts).left ≡ (walk (drop n rules) header now).left
 
   -- no rule is before the first
-  behind_none : (m : Match) → m ≡ behind 0 m
-  behind_none m = ap (λ (r : Option ℕ). record { rule = r; ticket = m.ticket; verdict = m.verdict }) (same m.rule)
+  after_none : (m : Match) → m ≡ following 0 m
+  after_none m = ap (λ (r : Option ℕ). record { rule = r; ticket = m.ticket; verdict = m.verdict }) (same m.rule)
     where
       same : (r : Option ℕ) → r ≡ option_map (λ k. 0 + k) r
       same None = refl
@@ -118,7 +118,7 @@ module _ {S : Type 0} (next : S → (map cell : ℕ) → ℕ) (leaves : S → (m
   pub begins : (rules : List Rule) (header : Header) (first : List Call) (counts : S) → IsOnWay rules header first counts 0 first counts
   begins rules header first counts = record {
     calls_are = refl;
-    found = behind_none (walk rules header counts).found;
+    found = after_none (walk rules header counts).found;
     counts_are = refl;
   }
 
@@ -143,7 +143,7 @@ module _ {S : Type 0} (next : S → (map cell : ℕ) → ℕ) (leaves : S → (m
       let whole : walk (drop n rules) header now ≡ later (walk (drop (n + 1) rules) header now) = step ∙ ap later next in
       record {
         calls_are = way.calls_are ∙ ap (λ (w : (Walk S)). calls ++ w.calls) whole;
-        found = way.found ∙ ap (λ (w : (Walk S)). behind n w.found) whole ∙ behind_more n (walk (drop (n + 1) rules) header now).found;
+        found = way.found ∙ ap (λ (w : (Walk S)). following n w.found) whole ∙ after_more n (walk (drop (n + 1) rules) header now).found;
         counts_are = way.counts_are ∙ ap (λ (w : (Walk S)). w.left) whole;
       }
 
@@ -161,14 +161,14 @@ module _ {S : Type 0} (next : S → (map cell : ℕ) → ℕ) (leaves : S → (m
       → walk (drop n rules) header now
       ≡ (if t
       then walk_with (draw quota (next now quota.map quota.cell) ∷ []) (first_match 1 (Some (draw quota (next now quota.map quota.cell))) (get_or rules n d).verdict) (leaves now quota.map quota.cell)
-      else walk_with (draw quota (next now quota.map quota.cell) ∷ (walk (drop (suc n) rules) header (leaves now quota.map quota.cell)).calls) (behind 1 (walk (drop (suc n) rules) header (leaves now quota.map quota.cell)).found) (walk (drop (suc n) rules) header (leaves now quota.map quota.cell)).left)
+      else walk_with (draw quota (next now quota.map quota.cell) ∷ (walk (drop (suc n) rules) header (leaves now quota.map quota.cell)).calls) (following 1 (walk (drop (suc n) rules) header (leaves now quota.map quota.cell)).found) (walk (drop (suc n) rules) header (leaves now quota.map quota.cell)).left)
   held_quota rules header now n d quota t within is has test =
       let verdict : Verdict = (get_or rules n d).verdict in
       let rest : S → (Walk S) = λ after. walk (drop (suc n) rules) header after in
       held rules header now n d within is
       ∙ ap (λ (q : Option Quota). walk_by q verdict now rest) has
       ∙ walk_if (nat_lt (next now quota.map quota.cell) quota.limit) t (walk_with (draw quota (next now quota.map quota.cell) ∷ []) (first_match 1 (Some (draw quota (next now quota.map quota.cell))) verdict) (leaves now quota.map quota.cell))
-      (walk_with (draw quota (next now quota.map quota.cell) ∷ (rest (leaves now quota.map quota.cell)).calls) (behind 1 (rest (leaves now quota.map quota.cell)).found) (rest (leaves now quota.map quota.cell)).left) test
+      (walk_with (draw quota (next now quota.map quota.cell) ∷ (rest (leaves now quota.map quota.cell)).calls) (following 1 (rest (leaves now quota.map quota.cell)).found) (rest (leaves now quota.map quota.cell)).left) test
 
   -- a rule whose quota is spent has drawn
   pub draws : (rules : List Rule) (header : Header) (first : List Call) (counts : S) (n : ℕ) (calls : List Call) (now : S) (d : Rule) (quota : Quota)
@@ -179,11 +179,11 @@ module _ {S : Type 0} (next : S → (map cell : ℕ) → ℕ) (leaves : S → (m
       let after : S = leaves now quota.map quota.cell in
       let call : Call = draw quota (next now quota.map quota.cell) in
       let from : ℕ → (Walk S) = λ k. walk (drop k rules) header after in
-      let drawn : (Walk S) → (Walk S) = λ w. walk_with (call ∷ w.calls) (behind 1 w.found) w.left in
+      let drawn : (Walk S) → (Walk S) = λ w. walk_with (call ∷ w.calls) (following 1 w.found) w.left in
       let whole : walk (drop n rules) header now ≡ drawn (from (n + 1)) = held_quota rules header now n d quota false within is has spent ∙ ap (λ (k : ℕ). drawn (from k)) (sym (add-one n)) in
       record {
         calls_are = way.calls_are ∙ ap (λ (w : (Walk S)). calls ++ w.calls) whole ∙ sym (append_assoc calls (call ∷ []) (from (n + 1)).calls);
-        found = way.found ∙ ap (λ (w : (Walk S)). behind n w.found) whole ∙ behind_more n (from (n + 1)).found;
+        found = way.found ∙ ap (λ (w : (Walk S)). following n w.found) whole ∙ after_more n (from (n + 1)).found;
         counts_are = way.counts_are ∙ ap (λ (w : (Walk S)). w.left) whole;
       }
 
@@ -191,11 +191,11 @@ module _ {S : Type 0} (next : S → (map cell : ℕ) → ℕ) (leaves : S → (m
 
   walked : (rules : List Rule) (header : Header) (first : List Call) (counts : S) (n : ℕ) (calls : List Call) (now : S) (end : (Walk S))
       → walk (drop n rules) header now ≡ end → IsOnWay rules header first counts n calls now
-      → IsWalked next leaves rules header counts end.left first (calls ++ end.calls) (behind n end.found)
+      → IsWalked next leaves rules header counts end.left first (calls ++ end.calls) (following n end.found)
   walked rules header first counts n calls now end is way =
       let whole = walk_is rules header counts in
       record {
-        found_is = sym (way.found ∙ ap (λ (w : (Walk S)). behind n w.found) is) ∙ ap (λ (w : (Walk S)). w.found) whole;
+        found_is = sym (way.found ∙ ap (λ (w : (Walk S)). following n w.found) is) ∙ ap (λ (w : (Walk S)). w.found) whole;
         calls_are = sym (way.calls_are ∙ ap (λ (w : (Walk S)). calls ++ w.calls) is) ∙ ap (λ (w : (Walk S)). first ++ w.calls) whole;
         left_is = sym (way.counts_are ∙ ap (λ (w : (Walk S)). w.left) is) ∙ ap (λ (w : (Walk S)). w.left) whole;
       }
@@ -248,17 +248,17 @@ decides_if : (t : Bool) (a b : Match) (c d : List Call × ℕ) → verdict_numbe
 decides_if true a b c d h g = h
 decides_if false a b c d h g = g
 
-decides_ruled : (quota : Option Quota) (verdict : Verdict) (told : ℕ → ℕ) (m : Match) (d : List Call × ℕ) → verdict_number m.verdict ≡ d.1
-    → verdict_number (match_by quota verdict told m).verdict ≡ (ruled quota (verdict_number verdict) told d).1
-decides_ruled None verdict told m d is = refl
-decides_ruled (Some quota) verdict told m d is =
-    let call : Call = draw quota (told 0) in
-    decides_if (nat_lt (told 0) quota.limit) (first_match 1 (Some call) verdict) (behind 1 m) (call ∷ [], verdict_number verdict) (call ∷ d.0, d.1) refl is
+decides_ruled : (quota : Option Quota) (verdict : Verdict) (reported : ℕ → ℕ) (m : Match) (d : List Call × ℕ) → verdict_number m.verdict ≡ d.1
+    → verdict_number (match_by quota verdict reported m).verdict ≡ (ruled quota (verdict_number verdict) reported d).1
+decides_ruled None verdict reported m d is = refl
+decides_ruled (Some quota) verdict reported m d is =
+    let call : Call = draw quota (reported 0) in
+    decides_if (nat_lt (reported 0) quota.limit) (first_match 1 (Some call) verdict) (following 1 m) (call ∷ [], verdict_number verdict) (call ∷ d.0, d.1) refl is
 
 pub decides : MatchDecides
-decides [] header told = refl
-decides (rule ∷ rules) header told =
-    let more : ℕ → ℕ = λ k. told (suc k) in
-    decides_if (holds rule header) (match_by rule.quota rule.verdict told (matched rules header more)) (behind 1 (matched rules header told))
-    (ruled rule.quota (verdict_number rule.verdict) told (decision rules header more)) (decision rules header told)
-    (decides_ruled rule.quota rule.verdict told (matched rules header more) (decision rules header more) (decides rules header more)) (decides rules header told)
+decides [] header reported = refl
+decides (rule ∷ rules) header reported =
+    let more : ℕ → ℕ = λ k. reported (suc k) in
+    decides_if (holds rule header) (match_by rule.quota rule.verdict reported (matched rules header more)) (following 1 (matched rules header reported))
+    (ruled rule.quota (verdict_number rule.verdict) reported (decision rules header more)) (decision rules header reported)
+    (decides_ruled rule.quota rule.verdict reported (matched rules header more) (decision rules header more) (decides rules header more)) (decides rules header reported)

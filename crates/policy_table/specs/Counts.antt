@@ -3,8 +3,8 @@ use Rattle.std.specs.Prelude.{ℕ, ◌+◌, ◌*◌, ◌%◌, ◌^◌, nat_lt, i
 use Rattle.std.specs.Prelude.{Some, None}
 use Rattle.machine.specs.declared.calls.Call.{Call}
 use Rattle.machine.specs.Memory.{Header}
-use Rattle.policy_table.specs.Meaning.{told_by}
-use Rattle.policy_table.specs.Tickets.{left_behind, tickets_given}
+use Rattle.policy_table.specs.Meaning.{answers_in_turn}
+use Rattle.policy_table.specs.Tickets.{tickets_left, tickets_given}
 use Rattle.policy_table.specs.declared.rules.Rule.{Rule}
 
 -- the place of a cell among the counts; no map has a cell from 256 on
@@ -31,8 +31,8 @@ after_draw counts map cell = one_more_at counts (cell_place map cell)
 
 -- the counts after some draws
 abbrev pub after_draws : List ℕ → List Call → List ℕ
-after_draws counts calls = left_behind after_draw counts calls
+after_draws counts calls = tickets_left after_draw counts calls
 
 -- the answers of the counts to the draws of a table
-abbrev pub told_on : List ℕ → List Rule → Header → ℕ → ℕ
-told_on counts rules header = told_by (tickets_given drawn_of after_draw rules header counts)
+abbrev pub reported_on : List ℕ → List Rule → Header → ℕ → ℕ
+reported_on counts rules header = answers_in_turn (tickets_given drawn_of after_draw rules header counts)

@@ -34,12 +34,12 @@ abbrev pub IsAddress : List ℕ → ℕ → Type 0
 IsAddress word address = WritesHex 8 word address
 
 -- a decimal number: one digit or more, and only digits
-abbrev pub IsDecimal : List ℕ → Type 0
-IsDecimal word = IsNumeral 10 word
+abbrev pub IsDigits : List ℕ → Type 0
+IsDigits word = IsNumeral 10 word
 
 -- a decimal number, kept as the greatest of 32 bits if it is above that one
 abbrev pub WritesCount : List ℕ → ℕ → Type 0
-WritesCount word n = IsDecimal word × (n ≡ min (digits_value 10 word) (2 ^ 32 - 1))
+WritesCount word n = IsDigits word × (n ≡ min (digits_value 10 word) (2 ^ 32 - 1))
 
 -- the parts of a word between its colons (58)
 abbrev pub parts_of : List ℕ → List (List ℕ)
@@ -52,9 +52,9 @@ pub record WritesQuota (word : List ℕ) (quota : Quota) : Type 0 where
   pub cell : List ℕ
   pub limit : List ℕ
   pub parts : parts_of word ≡ map ∷ cell ∷ limit ∷ []
-  pub map_digits : IsDecimal map
-  pub cell_digits : IsDecimal cell
-  pub limit_digits : IsDecimal limit
+  pub map_digits : IsDigits map
+  pub cell_digits : IsDigits cell
+  pub limit_digits : IsDigits limit
   pub map_kept : quota.map ≡ min (digits_value 10 map) 255
   pub cell_kept : quota.cell ≡ min (digits_value 10 cell) 65535
   pub limit_kept : quota.limit ≡ digits_value 10 limit
@@ -66,5 +66,5 @@ IsQuota word None = word ≡ codes "-"
 IsQuota word (Some quota) = WritesQuota word quota
 
 -- the word is the number of the verdict in decimal (ECSS-E-ST-50-52C, error and status codes)
-abbrev pub IsVerdict : List ℕ → Verdict → Type 0
-IsVerdict word verdict = word ≡ decimal (verdict_number verdict)
+abbrev pub IsVerdictWord : List ℕ → Verdict → Type 0
+IsVerdictWord word verdict = word ≡ decimal (verdict_number verdict)

@@ -26,23 +26,23 @@ HeadersHaveFields = (c : CommandValue) → HaveFields c
 -- a table draws at most once a rule
 abbrev pub DrawsAreFew : Type 0
 DrawsAreFew =
-    (rules : List Rule) (header : Header) (told : ℕ → ℕ) → length (decision rules header told).0 ≤ length rules
+    (rules : List Rule) (header : Header) (reported : ℕ → ℕ) → length (decision rules header reported).0 ≤ length rules
 
 -- the given answers answer its draws, in order
 abbrev pub DrawsAreAnswered : Type 0
 DrawsAreAnswered =
-    (rules : List Rule) (header : Header) (told : ℕ → ℕ) → AreAnswered told (decision rules header told).0
+    (rules : List Rule) (header : Header) (reported : ℕ → ℕ) → AreAnswered reported (decision rules header reported).0
 
 -- if the first rule whose conditions hold has no quota, nothing is drawn, and the verdict is the rule's
 abbrev pub FirstRuleDecides : Type 0
 FirstRuleDecides =
-    (before after : List Rule) (rule : Rule) (header : Header) (told : ℕ → ℕ)
+    (before after : List Rule) (rule : Rule) (header : Header) (reported : ℕ → ℕ)
     → All (λ other. holds other header ≡ false) before → holds rule header ≡ true → rule.quota ≡ None
-    → decision (before ++ rule ∷ after) header told ≡ ([], verdict_number rule.verdict)
+    → decision (before ++ rule ∷ after) header reported ≡ ([], verdict_number rule.verdict)
 
 -- if the conditions of no rule hold, nothing is drawn, and the command is not authorised
 abbrev pub NoRuleRefuses : Type 0
 NoRuleRefuses =
-    (rules : List Rule) (header : Header) (told : ℕ → ℕ)
-    → All (λ rule. holds rule header ≡ false) rules → decision rules header told
+    (rules : List Rule) (header : Header) (reported : ℕ → ℕ)
+    → All (λ rule. holds rule header ≡ false) rules → decision rules header reported
     ≡ ([], verdict_number NotAuthorised)

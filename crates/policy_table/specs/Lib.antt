@@ -20,7 +20,7 @@ pub mod StatementFaults
 pub mod TextFaults
 pub mod Statements
 pub mod Refined
-pub mod Drafts
+pub mod PartialTables
 pub mod Room
 pub mod Slots
 pub mod Policies

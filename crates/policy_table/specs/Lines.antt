@@ -4,7 +4,7 @@ use Rattle.spw.specs.Line.{lines_of, words_of}
 use Rattle.policy_table.specs.declared.faults.PolicyFault.{PolicyFault}
 use Rattle.policy_table.specs.declared.faults.PolicyFault.TheVariants.{TooLong, BadRange, Memory, NoCell, BadLine}
 use Rattle.policy_table.specs.declared.rules.Rule.{Rule}
-use Rattle.policy_table.specs.Fields.{IsKind, IsField, IsAddress, IsQuota, IsVerdict}
+use Rattle.policy_table.specs.Fields.{IsKind, IsField, IsAddress, IsQuota, IsVerdictWord}
 
 -- the line has eight words, each of its field: kind, key, initiator logical address, extended address, first and last
 -- address, quota and verdict
@@ -25,7 +25,7 @@ pub record IsRule (line : List ℕ) (rule : Rule) : Type 0 where
   pub is_low : IsAddress low rule.low
   pub is_high : IsAddress high rule.high
   pub is_quota : IsQuota quota rule.quota
-  pub is_verdict : IsVerdict verdict rule.verdict
+  pub is_verdict : IsVerdictWord verdict rule.verdict
 
 -- the lines are the rules, one for one
 abbrev pub AreRules : List (List ℕ) → List Rule → Type 0

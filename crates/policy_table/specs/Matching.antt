@@ -12,24 +12,24 @@ use Rattle.rmap.specs.declared.verdict.Verdict.TheVariants.{NotAuthorised}
 
 -- the quota of a rule whose conditions hold, if its ticket is below the limit. A rule without a quota has none. If the
 -- ticket is not below the limit, the rest decides
-abbrev pub matched_by : Option Quota → (told : ℕ → ℕ) → (rest : Option Quota) → Option Quota
-matched_by None told rest = None
-matched_by (Some quota) told rest = if nat_lt (told 0) quota.limit then Some quota else rest
+abbrev pub matched_by : Option Quota → (reported : ℕ → ℕ) → (rest : Option Quota) → Option Quota
+matched_by None reported rest = None
+matched_by (Some quota) reported rest = if nat_lt (reported 0) quota.limit then Some quota else rest
 
 -- the quota of the rule that decides, by the recursion of `decision`
-abbrev pub matching_quota : List Rule → Header → (told : ℕ → ℕ) → Option Quota
-matching_quota [] header told = None
-matching_quota (rule ∷ rules) header told =
+abbrev pub matching_quota : List Rule → Header → (reported : ℕ → ℕ) → Option Quota
+matching_quota [] header reported = None
+matching_quota (rule ∷ rules) header reported =
     if holds rule header
-    then matched_by rule.quota told (matching_quota rules header (λ k. told (suc k)))
-    else matching_quota rules header told
+    then matched_by rule.quota reported (matching_quota rules header (λ k. reported (suc k)))
+    else matching_quota rules header reported
 
 -- the calls are the draws of a decision, each with its answer, and it ends by the match of a rule with this quota
 pub record EndsByMatch (rules : List Rule) (header : Header) (calls : List Call) (map key limit : ℕ) : Type 0 where
-  pub told : ℕ → ℕ
-  pub draws : calls ≡ (decision rules header told).0
+  pub reported : ℕ → ℕ
+  pub draws : calls ≡ (decision rules header reported).0
   pub quota : Quota
-  pub matched : matching_quota rules header told ≡ Some quota
+  pub matched : matching_quota rules header reported ≡ Some quota
   pub of_map : quota.map ≡ map
   pub of_cell : quota.cell ≡ key
   pub of_limit : quota.limit ≡ limit
@@ -45,42 +45,42 @@ abbrev pub no_match : Match
 no_match = record { rule = None; ticket = None; verdict = NotAuthorised }
 
 -- the same match, if this many rules are before it
-abbrev pub behind : (before : ℕ) → Match → Match
-behind before m = record { rule = option_map (λ number. before + number) m.rule; ticket = m.ticket; verdict = m.verdict }
+abbrev pub following : (before : ℕ) → Match → Match
+following before m = record { rule = option_map (λ number. before + number) m.rule; ticket = m.ticket; verdict = m.verdict }
 
 -- a rule whose conditions hold. Without a quota it matches; with one it matches if its ticket is below the limit. Else
 -- a later rule may match
-abbrev pub match_by : Option Quota → Verdict → (told : ℕ → ℕ) → (rest : Match) → Match
-match_by None verdict told rest = first_match 1 None verdict
-match_by (Some quota) verdict told rest =
-    if nat_lt (told 0) quota.limit then first_match 1 (Some (draw quota (told 0))) verdict else behind 1 rest
+abbrev pub match_by : Option Quota → Verdict → (reported : ℕ → ℕ) → (rest : Match) → Match
+match_by None verdict reported rest = first_match 1 None verdict
+match_by (Some quota) verdict reported rest =
+    if nat_lt (reported 0) quota.limit then first_match 1 (Some (draw quota (reported 0))) verdict else following 1 rest
 
 -- by which rule a table decides, by the recursion of `decision`
-abbrev pub matched : List Rule → Header → (told : ℕ → ℕ) → Match
-matched [] header told = no_match
-matched (rule ∷ rules) header told =
+abbrev pub matched : List Rule → Header → (reported : ℕ → ℕ) → Match
+matched [] header reported = no_match
+matched (rule ∷ rules) header reported =
     if holds rule header
-    then match_by rule.quota rule.verdict told (matched rules header (λ k. told (suc k)))
-    else behind 1 (matched rules header told)
+    then match_by rule.quota rule.verdict reported (matched rules header (λ k. reported (suc k)))
+    else following 1 (matched rules header reported)
 
 -- the rule of this number is there, its conditions hold, and no rule before it matches
-pub record IsFirst (rules : List Rule) (header : Header) (told : ℕ → ℕ) (number : ℕ) : Type 0 where
+pub record IsFirst (rules : List Rule) (header : Header) (reported : ℕ → ℕ) (number : ℕ) : Type 0 where
   pub before : List Rule
   pub rule : Rule
   pub rest : List Rule
   pub rules_are : rules ≡ before ++ rule ∷ rest
   pub place : number ≡ suc (length before)
   pub conditions : holds rule header ≡ true
-  pub none_before : (matched before header told).rule ≡ None
+  pub none_before : (matched before header reported).rule ≡ None
 
 -- the rule by which a table decides is the first that matches
 abbrev pub FirstMatches : Type 0
 FirstMatches =
-    (rules : List Rule) (header : Header) (told : ℕ → ℕ) (number : ℕ)
-    → (matched rules header told).rule ≡ Some number → IsFirst rules header told number
+    (rules : List Rule) (header : Header) (reported : ℕ → ℕ) (number : ℕ)
+    → (matched rules header reported).rule ≡ Some number → IsFirst rules header reported number
 
 -- its verdict is that of the decision
 abbrev pub MatchDecides : Type 0
 MatchDecides =
-    (rules : List Rule) (header : Header) (told : ℕ → ℕ)
-    → verdict_number (matched rules header told).verdict ≡ (decision rules header told).1
+    (rules : List Rule) (header : Header) (reported : ℕ → ℕ)
+    → verdict_number (matched rules header reported).verdict ≡ (decision rules header reported).1

@@ -21,20 +21,20 @@ abbrev pub fields_of : Header → CommandValue
 fields_of header = record { front = header.front; reply_address = []; tail = header.tail; body = []; end = Eop }
 
 -- whether a rule's kind agrees with what a command asks for: any agrees with all, also with what is unused
-abbrev pub has_kind : RuleKind → Kind → Bool
-has_kind Any kind = true
-has_kind Read kinds.Read = true
-has_kind Read kinds.Write = false
-has_kind Read kinds.Rmw = false
-has_kind Read kinds.Unused = false
-has_kind Write kinds.Read = false
-has_kind Write kinds.Write = true
-has_kind Write kinds.Rmw = false
-has_kind Write kinds.Unused = false
-has_kind Rmw kinds.Read = false
-has_kind Rmw kinds.Write = false
-has_kind Rmw kinds.Rmw = true
-has_kind Rmw kinds.Unused = false
+abbrev pub agrees_with_kind : RuleKind → Kind → Bool
+agrees_with_kind Any kind = true
+agrees_with_kind Read kinds.Read = true
+agrees_with_kind Read kinds.Write = false
+agrees_with_kind Read kinds.Rmw = false
+agrees_with_kind Read kinds.Unused = false
+agrees_with_kind Write kinds.Read = false
+agrees_with_kind Write kinds.Write = true
+agrees_with_kind Write kinds.Rmw = false
+agrees_with_kind Write kinds.Unused = false
+agrees_with_kind Rmw kinds.Read = false
+agrees_with_kind Rmw kinds.Write = false
+agrees_with_kind Rmw kinds.Rmw = true
+agrees_with_kind Rmw kinds.Unused = false
 
 -- whether a field agrees with the byte: any agrees with every byte
 abbrev pub agrees : Option ℕ → ℕ → Bool
@@ -54,7 +54,7 @@ lies_between low high c = nat_le low (address_of c) && nat_le (last_address_of c
 -- whether the conditions of a rule hold for a command: kind, key, initiator, extended address and addresses
 abbrev pub holds_of : Rule → CommandValue → Bool
 holds_of rule c =
-    has_kind rule.kind (command_kind c) && agrees rule.key (key_of c) && agrees rule.initiator (initiator_of c)
+    agrees_with_kind rule.kind (command_kind c) && agrees rule.key (key_of c) && agrees rule.initiator (initiator_of c)
     && agrees rule.extended (extended_of c) && lies_between rule.low rule.high c
 
 -- whether the conditions of a rule hold for a header
@@ -70,26 +70,26 @@ draw quota answer = record {
 
 -- a rule whose conditions hold. Without a quota it matches; with one it draws a ticket, and matches if that is below
 -- the limit. Else the rest decides
-abbrev pub ruled : Option Quota → (code : ℕ) → (told : ℕ → ℕ) → (rest : List Call × ℕ) → List Call × ℕ
-ruled None code told rest = ([], code)
-ruled (Some quota) code told rest =
-    if nat_lt (told 0) quota.limit
-    then (draw quota (told 0) ∷ [], code)
-    else (draw quota (told 0) ∷ rest.0, rest.1)
+abbrev pub ruled : Option Quota → (code : ℕ) → (reported : ℕ → ℕ) → (rest : List Call × ℕ) → List Call × ℕ
+ruled None code reported rest = ([], code)
+ruled (Some quota) code reported rest =
+    if nat_lt (reported 0) quota.limit
+    then (draw quota (reported 0) ∷ [], code)
+    else (draw quota (reported 0) ∷ rest.0, rest.1)
 
 -- the draws of a table on a header, each with its answer, and the number of the verdict. If no rule matches, the
 -- verdict is not authorised. `told` are the answers in order
-abbrev pub decision : List Rule → Header → (told : ℕ → ℕ) → List Call × ℕ
-decision [] header told = ([], verdict_number NotAuthorised)
-decision (rule ∷ rules) header told =
+abbrev pub decision : List Rule → Header → (reported : ℕ → ℕ) → List Call × ℕ
+decision [] header reported = ([], verdict_number NotAuthorised)
+decision (rule ∷ rules) header reported =
     if holds rule header
-    then ruled rule.quota (verdict_number rule.verdict) told (decision rules header (λ k. told (suc k)))
-    else decision rules header told
+    then ruled rule.quota (verdict_number rule.verdict) reported (decision rules header (λ k. reported (suc k)))
+    else decision rules header reported
 
 -- the answers are words
-abbrev pub AreWords : (told : ℕ → ℕ) → Type 0
-AreWords told = (k : ℕ) → told k < 2 ^ 64
+abbrev pub AreAnswerWords : (reported : ℕ → ℕ) → Type 0
+AreAnswerWords reported = (k : ℕ) → reported k < 2 ^ 64
 
 -- answers from a list, and zeros after them
-abbrev pub told_by : List ℕ → ℕ → ℕ
-told_by answers k = slice_index answers k
+abbrev pub answers_in_turn : List ℕ → ℕ → ℕ
+answers_in_turn answers k = slice_index answers k

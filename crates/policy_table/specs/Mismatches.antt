@@ -4,7 +4,7 @@ use Rattle.std.specs.Option.{option_or}
 use Rattle.machine.specs.declared.calls.Call.{Call}
 use Rattle.machine.specs.Memory.{Header}
 use Rattle.rmap.specs.Command.{CommandValue, key_of, initiator_of, extended_of, address_of, command_kind}
-use Rattle.policy_table.specs.Meaning.{fields_of, has_kind, last_address_of}
+use Rattle.policy_table.specs.Meaning.{fields_of, agrees_with_kind, last_address_of}
 use Rattle.policy_table.specs.declared.mismatches.Mismatch.{Mismatch}
 use Rattle.policy_table.specs.declared.mismatches.Mismatch.TheVariants.{Kind, Key, Initiator, Extended, Low, High}
 use Rattle.policy_table.specs.declared.mismatches.OtherByte.{OtherByte}
@@ -19,20 +19,20 @@ other_byte None given = None
 other_byte (Some wanted) given = if given == wanted then None else Some (record { wanted = wanted; given = given })
 
 -- none if a fact holds, and else this mismatch
-abbrev pub unless : Bool → Mismatch → Option Mismatch
-unless holds told = if holds then None else Some told
+abbrev pub unless_mismatch : Bool → Mismatch → Option Mismatch
+unless_mismatch holds reported = if holds then None else Some reported
 
 -- how the addresses of a command, the first and the last, are not in the range
 abbrev pub range_mismatch : (low high : ℕ) → CommandValue → Option Mismatch
 range_mismatch low high c =
-    option_or (unless (nat_le low (address_of c)) (Low low (address_of c)))
-    (unless (nat_le (last_address_of c) high) (High high (last_address_of c)))
+    option_or (unless_mismatch (nat_le low (address_of c)) (Low low (address_of c)))
+    (unless_mismatch (nat_le (last_address_of c) high) (High high (last_address_of c)))
 
 -- the first word of a rule that does not agree with a command. The order of the tests is kind, key, initiator logical
 -- address, extended address, first address, last address
 abbrev pub mismatch_of : Rule → CommandValue → Option Mismatch
 mismatch_of rule c =
-    option_or (unless (has_kind rule.kind (command_kind c)) (Kind rule.kind (command_kind c)))
+    option_or (unless_mismatch (agrees_with_kind rule.kind (command_kind c)) (Kind rule.kind (command_kind c)))
     (option_or (option_map Key (other_byte rule.key (key_of c)))
     (option_or (option_map Initiator (other_byte rule.initiator (initiator_of c)))
     (option_or (option_map Extended (other_byte rule.extended (extended_of c)))

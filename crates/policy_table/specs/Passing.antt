@@ -8,14 +8,14 @@ use Rattle.policy_table.specs.declared.mismatches.Passed.TheVariants.{Unlike, Sp
 use Rattle.policy_table.specs.declared.rules.Rule.{Rule}
 
 -- the draws after those of a rule that does not match
-abbrev pub draws_behind : Passed → List Call → List Call
-draws_behind (Unlike mismatch) draws = draws
-draws_behind (Spent call limit) draws = drop 1 draws
+abbrev pub draws_after : Passed → List Call → List Call
+draws_after (Unlike mismatch) draws = draws
+draws_after (Spent call limit) draws = drop 1 draws
 
 -- a rule that does not match, before those after it; none from the rule on that matches
 abbrev pub passed_first : Option Passed → (later : List Call → List Passed) → (draws : List Call) → List Passed
 passed_first None later draws = []
-passed_first (Some why) later draws = why ∷ later (draws_behind why draws)
+passed_first (Some why) later draws = why ∷ later (draws_after why draws)
 
 -- why rules do not match a header, up to the first that does, if these are their draws, in order
 abbrev pub passed_rules : List Rule → Header → (draws : List Call) → List Passed

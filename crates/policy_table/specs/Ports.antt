@@ -14,8 +14,8 @@ rules_at port (own ∷ rules) = if agrees own.port port then own.rule ∷ rules_
 
 -- the draws of a table on a header at a port, each with its answer, and the number of the verdict. The rules that are
 -- asked there decide, so that a rule of another port draws nothing
-abbrev pub port_decision : List PortRule → Header → (port : ℕ) → (told : ℕ → ℕ) → List Call × ℕ
-port_decision rules header port told = decision (rules_at port rules) header told
+abbrev pub port_decision : List PortRule → Header → (port : ℕ) → (reported : ℕ → ℕ) → List Call × ℕ
+port_decision rules header port reported = decision (rules_at port rules) header reported
 
 -- a rule that is asked at every port, in the line of this number
 abbrev pub at_every_port : (line : ℕ) → Rule → PortRule

@@ -14,8 +14,8 @@ abbrev pub is_eight_digits : List ℕ → Bool
 is_eight_digits word = (length word == 8) && list_all is_ascii_hexdigit word
 
 -- the word is the name of a range: of the form of a name, and no address
-abbrev pub is_name : List ℕ → Bool
-is_name word = has_form word && not (is_eight_digits word)
+abbrev pub is_range_name : List ℕ → Bool
+is_range_name word = has_form word && not (is_eight_digits word)
 
 -- the words of a range that has a name: the name, and the words of its first and last address
 pub record RangeText : Type 0 where

@@ -48,9 +48,9 @@ abbrev pub room_left : TableVersion → Room → PortRule → Room
 room_left version r own = room (r.left - room_taken version r.asks own) (r.asks || is_some own.port)
 
 -- the fault of a rule for which there is no room, with its place; none if a rule before it had no room
-abbrev pub room_told : TableVersion → Option Room → PortRule → Option TextFault
-room_told version None own = None
-room_told version (Some r) own = if is_too_much version r own then Some (Line own.line (too_many version r own)) else None
+abbrev pub room_fault : TableVersion → Option Room → PortRule → Option TextFault
+room_fault version None own = None
+room_fault version (Some r) own = if is_too_much version r own then Some (Line own.line (too_many version r own)) else None
 
 -- the room after a rule; none after the first for which there is none
 abbrev pub room_after : TableVersion → Option Room → PortRule → Option Room
@@ -61,8 +61,8 @@ room_after version (Some r) own = if is_too_much version r own then None else So
 abbrev pub length_from : TableVersion → Option Room → List PortRule → Option TextFault
 length_from version r [] = None
 length_from version r (own ∷ rules) =
-    option_or (room_told version r own) (length_from version (room_after version r own) rules)
+    option_or (room_fault version r own) (length_from version (room_after version r own) rules)
 
 -- the fault of a table that is too long: its first rule for which there is no room
-abbrev pub length_told : TableVersion → List PortRule → Option TextFault
-length_told version rules = length_from version (Some (whole_room version)) rules
+abbrev pub length_fault : TableVersion → List PortRule → Option TextFault
+length_fault version rules = length_from version (Some (whole_room version)) rules

@@ -5,7 +5,7 @@ use Rattle.std.specs.List.{before_first}
 use Rattle.basm_lex.specs.Lines.{is_semicolon}
 use Rattle.spw.specs.Line.{WritesPort, words_of}
 use Rattle.policy_table.specs.Fields.{IsAddress}
-use Rattle.policy_table.specs.Ranges.{RangeText, is_name, range_named}
+use Rattle.policy_table.specs.Ranges.{RangeText, is_range_name, range_named}
 use Rattle.policy_table.specs.Words.{AreWordsOf, IsFirstBad, LineWords, WritesNone, WritesSome, texts_of}
 use Rattle.policy_table.specs.declared.rules.Rule.{Rule}
 use Rattle.policy_table.specs.declared.statement_faults.StatementFault.{StatementFault}
@@ -42,8 +42,8 @@ are_version_two (first ∷ second ∷ rest) =
     bytes_eq first (codes ".version") && bytes_eq second (codes "2") && is_none (next_word rest)
 
 -- whether a line is `.version 2`, before its comment
-unfoldable pub begins_two : (line : List ℕ) → Bool
-begins_two line = are_version_two (statement_words line)
+unfoldable pub is_version_two : (line : List ℕ) → Bool
+is_version_two line = are_version_two (statement_words line)
 
 -- whether a word begins with this character
 abbrev pub begins_with : ℕ → List ℕ → Bool
@@ -93,7 +93,7 @@ named_span None name rest = record { low = name; high = name; named = true; rest
 -- the range that begins with this word: a name, or the first of two addresses
 unfoldable pub range_words : List RangeText → (word : List ℕ) → (rest : List (List ℕ)) → Option SpanText
 range_words ranges word rest =
-    if is_name word
+    if is_range_name word
     then Some (named_span (range_named ranges word) word rest)
     else (next_word rest >>= (λ high. Some (record { low = word; high = high.0; named = false; rest = high.1 })))
 
@@ -134,13 +134,13 @@ rule_parts ranges words =
     })))))))))
 
 -- what comes after a verdict: nothing, or `port` and a decimal number from 0 to 31
-abbrev pub IsPort : List (List ℕ) → Option ℕ → Type 0
-IsPort words None = words ≡ []
-IsPort words (Some port) = (number : List ℕ) × (words ≡ codes "port" ∷ number ∷ []) × WritesPort number port
+abbrev pub IsPortSuffix : List (List ℕ) → Option ℕ → Type 0
+IsPortSuffix words None = words ≡ []
+IsPortSuffix words (Some port) = (number : List ℕ) × (words ≡ codes "port" ∷ number ∷ []) × WritesPort number port
 
 -- it is neither
-abbrev pub IsNoPort : List (List ℕ) → Type 0
-IsNoPort words = (port : Option ℕ) → ¬ IsPort words port
+abbrev pub IsBadPortWord : List (List ℕ) → Type 0
+IsBadPortWord words = (port : Option ℕ) → ¬ IsPortSuffix words port
 
 -- the words are those of the rule, for this port or for all, if these ranges have names
 pub record IsRuleLine (ranges : List RangeText) (words : List (List ℕ)) (rule : Rule) (port : Option ℕ) (named : Bool)
@@ -148,7 +148,7 @@ pub record IsRuleLine (ranges : List RangeText) (words : List (List ℕ)) (rule 
   pub parts : PartsText
   pub are : rule_parts ranges words ≡ Some parts
   pub is_rule : AreWordsOf parts.words rule
-  pub is_port : IsPort parts.rest port
+  pub is_port : IsPortSuffix parts.rest port
   pub is_named : named ≡ parts.named
 
 -- the first of the words of a rule that is none of its field
@@ -164,7 +164,7 @@ pub record HasBadPort (ranges : List RangeText) (words : List (List ℕ)) (named
   pub rule : Rule
   pub are : rule_parts ranges words ≡ Some parts
   pub is_rule : AreWordsOf parts.words rule
-  pub no_port : IsNoPort parts.rest
+  pub no_port : IsBadPortWord parts.rest
   pub is_named : named ≡ parts.named
 
 -- why the words are no rule: too few, a word that is none of its field, or what comes after the verdict
@@ -185,20 +185,20 @@ three_words words =
     if is_none (next_word high.1) then Some (record { name = name.0; low = low.0; high = high.0 }) else None)))
 
 -- the words after `.range` define the range, whose name no range has, and whether it ends before it begins
-pub record IsRange (ranges : List RangeText) (words : List (List ℕ)) (range : RangeText) (reversed : Bool) : Type 0 where
+pub record IsRangeLine (ranges : List RangeText) (words : List (List ℕ)) (range : RangeText) (reversed : Bool) : Type 0 where
   pub low : ℕ
   pub high : ℕ
   pub are : three_words words ≡ Some range
-  pub has_name : is_name range.name ≡ true
+  pub has_name : is_range_name range.name ≡ true
   pub is_new : range_named ranges range.name ≡ None
   pub is_low : IsAddress range.low low
   pub is_high : IsAddress range.high high
   pub order : reversed ≡ nat_lt high low
 
 -- the words are three, and the first is the name of no range
-pub record IsNew (ranges : List RangeText) (words : List (List ℕ)) (range : RangeText) : Type 0 where
+pub record IsNewName (ranges : List RangeText) (words : List (List ℕ)) (range : RangeText) : Type 0 where
   pub are : three_words words ≡ Some range
-  pub has_name : is_name range.name ≡ true
+  pub has_name : is_range_name range.name ≡ true
   pub is_new : range_named ranges range.name ≡ None
 
 -- why the words after `.range` define no range. They are not three; the first is no name, or that of a range above; the
@@ -207,10 +207,10 @@ abbrev pub IsNoRange : List RangeText → List (List ℕ) → StatementFault →
 IsNoRange ranges words fault =
     ((fault ≡ RangeCount (length words)) × (three_words words ≡ None))
     ⊎ (((fault ≡ RangeName)
-    × ((range : RangeText) × (three_words words ≡ Some range) × (is_name range.name ≡ false)))
+    × ((range : RangeText) × (three_words words ≡ Some range) × (is_range_name range.name ≡ false)))
     ⊎ (((fault ≡ RangeTwice)
-    × ((range : RangeText) × (three_words words ≡ Some range) × (is_name range.name ≡ true) × IsSome (range_named ranges range.name)))
+    × ((range : RangeText) × (three_words words ≡ Some range) × (is_range_name range.name ≡ true) × IsSome (range_named ranges range.name)))
     ⊎ (((fault ≡ RangeLow)
-    × ((range : RangeText) × IsNew ranges words range × WritesNone IsAddress range.low))
+    × ((range : RangeText) × IsNewName ranges words range × WritesNone IsAddress range.low))
     ⊎ ((fault ≡ RangeHigh)
-    × ((range : RangeText) × IsNew ranges words range × WritesSome IsAddress range.low × WritesNone IsAddress range.high)))))
+    × ((range : RangeText) × IsNewName ranges words range × WritesSome IsAddress range.low × WritesNone IsAddress range.high)))))

@@ -7,9 +7,9 @@ use Rattle.policy_table.specs.declared.rules.Quota.{Quota}
 use Rattle.policy_table.specs.declared.rules.Rule.{Rule}
 
 -- what is left of tickets after some draws, if `after` is what is left after one of a cell
-abbrev pub left_behind : {Tickets : Type 0} → (after : Tickets → (map cell : ℕ) → Tickets) → Tickets → List Call → Tickets
-left_behind {Tickets} after tickets [] = tickets
-left_behind {Tickets} after tickets (c ∷ cs) = left_behind after (after tickets c.question.map c.question.key) cs
+abbrev pub tickets_left : {Tickets : Type 0} → (after : Tickets → (map cell : ℕ) → Tickets) → Tickets → List Call → Tickets
+tickets_left {Tickets} after tickets [] = tickets
+tickets_left {Tickets} after tickets (c ∷ cs) = tickets_left after (after tickets c.question.map c.question.key) cs
 
 -- if `next` is the next ticket of a cell, and `after` is what is left after it
 module _ {Tickets : Type 0} (next : Tickets → (map cell : ℕ) → ℕ) (after : Tickets → (map cell : ℕ) → Tickets) where

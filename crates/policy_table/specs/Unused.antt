@@ -14,13 +14,13 @@ range_name (first ∷ []) = None
 range_name (first ∷ name ∷ rest) = if bytes_eq first (codes ".range") then Some name else None
 
 -- there is a word, and it is this one
-abbrev pub is_word : Option (List ℕ) → (name : List ℕ) → Bool
-is_word None name = false
-is_word (Some word) name = bytes_eq word name
+abbrev pub is_this_word : Option (List ℕ) → (name : List ℕ) → Bool
+is_this_word None name = false
+is_this_word (Some word) name = bytes_eq word name
 
 -- the line has this name in place of two addresses
 abbrev pub has_name : (name line : List ℕ) → Bool
-has_name name line = is_word (fifth_word (statement_words line)) name
+has_name name line = is_this_word (fifth_word (statement_words line)) name
 
 -- there is a name, and no line has it in place of two addresses
 abbrev pub is_named_by_none : List (List ℕ) → Option (List ℕ) → Bool

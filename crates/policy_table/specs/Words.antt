@@ -1,6 +1,6 @@
 -- The words of a rule, and which word of a line is the first that is none of its field.
 use Rattle.std.specs.Prelude.{ℕ, List, [], ◌∷◌, codes}
-use Rattle.policy_table.specs.Fields.{IsAddress, IsField, IsKind, IsQuota, IsVerdict}
+use Rattle.policy_table.specs.Fields.{IsAddress, IsField, IsKind, IsQuota, IsVerdictWord}
 use Rattle.policy_table.specs.declared.lines.Words.{Words}
 use Rattle.policy_table.specs.declared.rules.Rule.{Rule}
 use Rattle.policy_table.specs.declared.words.RuleWord.{RuleWord}
@@ -68,7 +68,7 @@ IsFirstBad w Quota = WritesSome IsKind w.kind × WritesSome IsField w.key × Wri
     × WritesNone IsQuota w.quota
 IsFirstBad w Verdict = WritesSome IsKind w.kind × WritesSome IsField w.key × WritesSome IsField w.initiator
     × WritesSome IsField w.extended × WritesSome IsAddress w.low × WritesSome IsAddress w.high
-    × WritesSome IsQuota w.quota × WritesNone IsVerdict w.verdict
+    × WritesSome IsQuota w.quota × WritesNone IsVerdictWord w.verdict
 
 -- eight words are those of the rule, each of its field
 pub record AreWordsOf (w : LineWords) (rule : Rule) : Type 0 where
@@ -79,7 +79,7 @@ pub record AreWordsOf (w : LineWords) (rule : Rule) : Type 0 where
   pub is_low : IsAddress w.low rule.low
   pub is_high : IsAddress w.high rule.high
   pub is_quota : IsQuota w.quota rule.quota
-  pub is_verdict : IsVerdict w.verdict rule.verdict
+  pub is_verdict : IsVerdictWord w.verdict rule.verdict
 
 -- the eight words that are lent of a line
 abbrev pub texts_of : Words → LineWords

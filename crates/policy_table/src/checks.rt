@@ -4,7 +4,7 @@ ghost use Rattle.std.specs.Prelude.{◌≡◌};
 ghost use Rattle.machine.specs.Helpers.{takes_kind};
 ghost use Rattle.machine.specs.Sizes.{kind_of_map};
 ghost use Rattle.policy_table.specs.FirstFault.{compile_fault, quota_fault, rule_fault, rules_fault};
-ghost use Rattle.policy_table.specs.Policies.{rule_told};
+ghost use Rattle.policy_table.specs.Policies.{placed_rule_fault};
 
 use crate::faults::PolicyFault;
 use crate::port_rules::PortRule;
@@ -74,8 +74,8 @@ pub fn compile_fault(rules: &[Rule], sizes: &MapSizes) -> Option<PolicyFault>
 }
 
 /// The fault of a rule in a table, with its place: its range ends before it begins and has no name, or its quota has no cell.
-pub fn rule_told(own: &PortRule, sizes: &MapSizes) -> Option<TextFault>
-    ensures { result ≡ rule_told sizes.now own.now }
+pub fn placed_rule_fault(own: &PortRule, sizes: &MapSizes) -> Option<TextFault>
+    ensures { result ≡ placed_rule_fault sizes.now own.now }
 {
     let line = own.line;
     if !own.named && own.rule.high < own.rule.low {

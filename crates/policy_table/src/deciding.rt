@@ -5,7 +5,7 @@ ghost use Rattle.byteorder.specs.Endian.{big_number};
 ghost use Rattle.machine.specs.Memory.{header};
 ghost use Rattle.rmap.specs.Command.{address_of as address_in};
 ghost use Rattle.rmap.specs.Instruction.{has_increment_bit, kind_of};
-ghost use Rattle.policy_table.specs.Meaning.{fields_of, has_kind, holds, last_address_of};
+ghost use Rattle.policy_table.specs.Meaning.{fields_of, agrees_with_kind, holds, last_address_of};
 ghost use Rattle.policy_table.specs.Mismatches.{mismatch, passed, range_mismatch};
 
 use crate::mismatches::{Mismatch, Passed, other_byte, spent};
@@ -16,8 +16,8 @@ use rmap::field::{ADDRESS, EXTENDED, INITIATOR, INSTRUCTION, KEY, LENGTH};
 use rmap::{Instruction, Kind};
 
 /// Whether a rule's kind agrees with what a command asks for.
-pub fn has_kind(wanted: RuleKind, kind: Kind) -> bool
-    ensures { result ≡ has_kind wanted kind }
+pub fn agrees_with_kind(wanted: RuleKind, kind: Kind) -> bool
+    ensures { result ≡ agrees_with_kind wanted kind }
 {
     match wanted {
         RuleKind::Any => true,
@@ -75,7 +75,7 @@ fn first_mismatch(rule: &Rule, front: &[u8; 4], tail: &[u8; 12]) -> Option<Misma
     ensures { result ≡ mismatch rule.now (header front.now tail.now) }
 {
     let kind = Instruction(front[INSTRUCTION]).kind();
-    if !has_kind(rule.kind, kind) {
+    if !agrees_with_kind(rule.kind, kind) {
         return Some(Mismatch::Kind {
             wanted: rule.kind,
             given: kind,

@@ -3,7 +3,7 @@
 ghost use Rattle.std.specs.Prelude.{◌≡◌, ℕ, MatchOption, Option, [], ◌∷◌, length};
 ghost use Rattle.std.specs.Char.{is_ascii_digit};
 ghost use Rattle.std.specs.List.{list_all};
-ghost use Rattle.policy_table.specs.Fields.{IsAddress, IsDecimal, IsField, IsKind, IsQuota, IsVerdict, WritesCount, WritesHex, parts_of};
+ghost use Rattle.policy_table.specs.Fields.{IsAddress, IsDigits, IsField, IsKind, IsQuota, IsVerdictWord, WritesCount, WritesHex, parts_of};
 ghost use Rattle.policy_table.specs.declared.rules.Quota.{Quota};
 ghost use Rattle.policy_table.specs.declared.rules.RuleKind.{RuleKind};
 ghost use Rattle.rmap.specs.declared.verdict.Verdict.{Verdict};
@@ -69,7 +69,7 @@ fn has_digits_alone(word: &str) -> bool
 /// The number that decimal digits write, however many there are. A number past the greatest of 32 bits is read as the
 /// greatest.
 fn count_of(word: &str) -> Option<u32>
-    ensures { MatchOption result (¬ IsDecimal word.now) (WritesCount word.now) }
+    ensures { MatchOption result (¬ IsDigits word.now) (WritesCount word.now) }
 {
     if word.is_empty() || !has_digits_alone(word) {
         return None;
@@ -113,8 +113,8 @@ pub fn quota_of(word: &str) -> Option<Option<Quota>>
 
 /// The verdict whose number a word writes in decimal, without a leading zero.
 pub fn verdict_of(word: &str) -> Option<Verdict>
-    ensures { MatchOption result ((verdict : Verdict) → ¬ IsVerdict word.now verdict)
-        (IsVerdict word.now) }
+    ensures { MatchOption result ((verdict : Verdict) → ¬ IsVerdictWord word.now verdict)
+        (IsVerdictWord word.now) }
 {
     if word.len() > 1 && word.starts_with('0') {
         return None;

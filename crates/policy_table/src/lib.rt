@@ -9,7 +9,7 @@
 mod checks;
 mod counts;
 mod deciding;
-mod drafts;
+mod partial_tables;
 mod faults;
 mod fields;
 mod laws;
@@ -36,7 +36,7 @@ mod versions;
 mod words;
 
 pub use counts::Counts;
-pub use deciding::{has_kind, last_address};
+pub use deciding::{agrees_with_kind, last_address};
 pub use faults::PolicyFault;
 pub use laws::{decisions, first_rule_matches, headers_have_fields, table_is_unambiguous};
 pub use matching::Match;
@@ -49,7 +49,7 @@ pub use slots::{
     asks_ports, field_slots, kind_slots, port_rule_slots, quota_slots, rule_slots, table_slots,
 };
 pub use statement_faults::StatementFault;
-pub use surveys::reported;
+pub use surveys::reported_fault;
 pub use tables::Table;
 pub use text_faults::TextFault;
 pub use unused::unused_ranges;

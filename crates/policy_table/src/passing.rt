@@ -2,7 +2,7 @@
 
 ghost use Rattle.std.specs.Prelude.{◌≡◌, IfOk, slice_get};
 ghost use Rattle.machine.specs.Memory.{header};
-ghost use Rattle.policy_table.specs.Passing.{draws_behind, passed_rules};
+ghost use Rattle.policy_table.specs.Passing.{draws_after, passed_rules};
 
 use crate::mismatches::Passed;
 use crate::rules::Rule;
@@ -10,15 +10,15 @@ use machine::Call;
 use std::alloc::{AllocError, Global};
 
 /// The first draw.
-fn first_of(draws: &[Call]) -> Option<Call>
+fn first_text_fault(draws: &[Call]) -> Option<Call>
     ensures { result ≡ slice_get draws.now 0 }
 {
     draws.get(0).copied()
 }
 
 /// The draws after those of a rule that does not match.
-fn draws_behind<'c>(why: &Passed, draws: &'c [Call]) -> &'c [Call]
-    ensures { result.now ≡ draws_behind why.now draws.now }
+fn draws_after<'c>(why: &Passed, draws: &'c [Call]) -> &'c [Call]
+    ensures { result.now ≡ draws_after why.now draws.now }
 {
     match why {
         Passed::Unlike(_) => draws,
@@ -47,10 +47,10 @@ pub fn passed_rules(
     let mut all = Vec::new(alloc);
     let mut left = draws;
     for rule in rules {
-        let Some(why) = rule.passed(front, tail, first_of(left)) else {
+        let Some(why) = rule.passed(front, tail, first_text_fault(left)) else {
             return Ok(all);
         };
-        left = draws_behind(&why, left);
+        left = draws_after(&why, left);
         all.push(why)?;
     }
     Ok(all)

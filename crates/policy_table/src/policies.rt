@@ -4,18 +4,18 @@ ghost use Rattle.std.specs.Prelude.{◌≡◌, ◌<◌, ◌^◌, ◌+◌, All, I
 ghost use Rattle.std.specs.List.{list_any};
 ghost use Rattle.spw.specs.Line.{lines_of};
 ghost use Rattle.policy_table.specs.Limits.{FitsFields};
-ghost use Rattle.policy_table.specs.Policies.{IsDrawnFault, IsPolicyFault, IsUnreadPolicy, WritesPolicy, drawn_fault, is_before, policy_fault, reading, reading_of, reversed_told, rules_told, version_of};
+ghost use Rattle.policy_table.specs.Policies.{IsDrawnFault, IsPolicyFault, IsUnreadPolicy, WritesPolicy, drawn_fault, is_before, policy_fault, policy_reading, policy_reading_of, reversed_fault, placed_rules_fault, policy_version_of};
 ghost use Rattle.policy_table.specs.Ports.{FitsPort, on_lines};
 ghost use Rattle.policy_table.specs.Statements.{has_version};
-ghost use Rattle.policy_table.specs.Surveys.{AreFaults, IsReported, reported};
+ghost use Rattle.policy_table.specs.Surveys.{AreFaults, IsReported, reported_fault};
 
-use crate::checks::rule_told;
-use crate::drafts::read_lines;
+use crate::checks::placed_rule_fault;
+use crate::partial_tables::read_lines;
 use crate::port_rules::PortRule;
-use crate::room::length_told;
+use crate::room::length_fault;
 use crate::rules::Rule;
 use crate::statement_faults::StatementFault;
-use crate::statements::{begins_two, has_version};
+use crate::statements::{is_version_two, has_version};
 use crate::surveys::survey_lines;
 use crate::text_faults::TextFault;
 use crate::versions::TableVersion;
@@ -81,8 +81,8 @@ fn says_version(text: &str) -> bool
 }
 
 /// The version of a text whose first line is not `.version 2`.
-fn version_of(text: &str) -> TableVersion
-    ensures { result ≡ version_of (lines_of text.now) }
+fn policy_version_of(text: &str) -> TableVersion
+    ensures { result ≡ policy_version_of (lines_of text.now) }
 {
     if says_version(text) {
         TableVersion::Two
@@ -93,22 +93,22 @@ fn version_of(text: &str) -> TableVersion
 
 /// How the lines of a text are read, if its first line is not `.version 2`.
 fn plain_reading(text: &str) -> (TableVersion, usize, TextLines<'_>)
-    ensures how { reading result.0 result.1 result.2
-        ≡ reading (version_of (lines_of text.now)) 0 (lines_of text.now) }
+    ensures how { policy_reading result.0 result.1 result.2
+        ≡ policy_reading (policy_version_of (lines_of text.now)) 0 (lines_of text.now) }
     ensures few { result.1 + length result.2 < 2 ^ 64 }
 {
-    (version_of(text), 0, lines_of(text))
+    (policy_version_of(text), 0, lines_of(text))
 }
 
 /// How the lines of a text are read: their version, how many are before those that say something, and these.
-fn reading_of(text: &str) -> (TableVersion, usize, TextLines<'_>)
-    ensures how { reading result.0 result.1 result.2 ≡ reading_of (lines_of text.now) }
+fn policy_reading_of(text: &str) -> (TableVersion, usize, TextLines<'_>)
+    ensures how { policy_reading result.0 result.1 result.2 ≡ policy_reading_of (lines_of text.now) }
     ensures few { result.1 + length result.2 < 2 ^ 64 }
 {
     let mut lines = lines_of(text);
     match lines.next() {
         Some(first) => {
-            if begins_two(first) {
+            if is_version_two(first) {
                 (TableVersion::Two, 1, lines)
             } else {
                 plain_reading(text)
@@ -119,8 +119,8 @@ fn reading_of(text: &str) -> (TableVersion, usize, TextLines<'_>)
 }
 
 /// The fault of the range that ends before it begins, if there is one.
-fn reversed_told(reversed: Option<usize>) -> Option<TextFault>
-    ensures { result ≡ reversed_told reversed }
+fn reversed_fault(reversed: Option<usize>) -> Option<TextFault>
+    ensures { result ≡ reversed_fault reversed }
 {
     let line = reversed?;
     Some(TextFault::Line {
@@ -157,9 +157,9 @@ impl Policy {
         ensures read { IfOk result (WritesPolicy (lines_of text.now)) }
         ensures fault { IfErr result (IsUnreadPolicy (lines_of text.now)) }
     {
-        let (version, before, lines) = reading_of(text);
-        let draft = read_lines(alloc, version, before, lines)?;
-        let (reversed, rules) = draft.into_rules();
+        let (version, before, lines) = policy_reading_of(text);
+        let partial_table = read_lines(alloc, version, before, lines)?;
+        let (reversed, rules) = partial_table.into_rules();
         Ok(Policy {
             version,
             reversed,
@@ -208,7 +208,7 @@ impl Policy {
     fn drawn_fault_for(&self, sizes: &MapSizes) -> Option<TextFault>
         ensures { result ≡ drawn_fault sizes.now self.now }
     {
-        rules_told(self.reversed, self.rules.as_slice(), sizes)
+        placed_rules_fault(self.reversed, self.rules.as_slice(), sizes)
     }
 
     /// The first fault of the table for a node with maps of these sizes, with its place: that for which it is not
@@ -220,10 +220,10 @@ impl Policy {
     pub fn fault_for(&self, sizes: &MapSizes) -> Option<TextFault>
         ensures { result ≡ policy_fault sizes.now self.now }
     {
-        if let Some(fault) = length_told(self.version, self.rules.as_slice()) {
+        if let Some(fault) = length_fault(self.version, self.rules.as_slice()) {
             return Some(fault);
         }
-        rules_told(self.reversed, self.rules.as_slice(), sizes)
+        placed_rules_fault(self.reversed, self.rules.as_slice(), sizes)
     }
 
     /// All faults of a text for a node with maps of these sizes, in the order of its lines. If there is no room for a
@@ -238,10 +238,10 @@ impl Policy {
     /// An error if memory is refused.
     pub fn faults(alloc: Global, text: &str, sizes: &MapSizes) -> Result<Vec<TextFault>, AllocError>
         ensures all { IfOk result (λ all. AreFaults sizes.now (lines_of text.now) all.items) }
-        ensures reported { IfOk result
-            (λ all. IsReported sizes.now (lines_of text.now) (reported all.items)) }
+        ensures reported_fault { IfOk result
+            (λ all. IsReported sizes.now (lines_of text.now) (reported_fault all.items)) }
     {
-        let (version, before, lines) = reading_of(text);
+        let (version, before, lines) = policy_reading_of(text);
         let all = survey_lines(alloc, version, before, lines, sizes)?;
         Ok(all)
     }
@@ -263,16 +263,16 @@ impl Policy {
 }
 
 /// The first fault of rules and of the range that ends before it begins, line by line.
-fn rules_told(reversed: Option<usize>, rules: &[PortRule], sizes: &MapSizes) -> Option<TextFault>
-    ensures { result ≡ rules_told sizes.now reversed rules.now }
+fn placed_rules_fault(reversed: Option<usize>, rules: &[PortRule], sizes: &MapSizes) -> Option<TextFault>
+    ensures { result ≡ placed_rules_fault sizes.now reversed rules.now }
 {
     for own in rules {
         if is_before(reversed, own.line) {
-            return reversed_told(reversed);
+            return reversed_fault(reversed);
         }
-        if let Some(fault) = rule_told(own, sizes) {
+        if let Some(fault) = placed_rule_fault(own, sizes) {
             return Some(fault);
         }
     }
-    reversed_told(reversed)
+    reversed_fault(reversed)
 }

@@ -4,7 +4,7 @@ ghost use Rattle.std.specs.Prelude.{◌≡◌, ◌++◌, ◌∷◌, [], ℕ, Lis
 ghost use Rattle.std.specs.List.{list_all};
 ghost use Rattle.std.specs.Char.{is_ascii_hexdigit};
 ghost use Rattle.std.specs.Option.{option_or};
-ghost use Rattle.policy_table.specs.Ranges.{is_eight_digits, is_name, place_in, range_named, range_text};
+ghost use Rattle.policy_table.specs.Ranges.{is_eight_digits, is_range_name, place_in, range_named, range_text};
 
 use std::alloc::{AllocError, Global};
 use std::collections::BTreeMap;
@@ -37,8 +37,8 @@ fn is_eight_digits(word: &str) -> bool
 
 /// Whether a word is the name of a range: a letter, then letters, digits and underscores, and not eight hexadecimal
 /// digits.
-pub fn is_name(word: &str) -> bool
-    ensures { result ≡ is_name word.now }
+pub fn is_range_name(word: &str) -> bool
+    ensures { result ≡ is_range_name word.now }
 {
     basm_lex::is_name(word) && !is_eight_digits(word)
 }

@@ -1,7 +1,7 @@
 //! Which rule of a table is the first for which there is no room.
 
 ghost use Rattle.std.specs.Prelude.{◌≡◌, ◌≤◌, Some};
-ghost use Rattle.policy_table.specs.Room.{first_port_slots, is_too_much, length_told, room_after, room_left, room_taken, room_told, too_many, whole_room};
+ghost use Rattle.policy_table.specs.Room.{first_port_slots, is_too_much, length_fault, room_after, room_left, room_taken, room_fault, too_many, whole_room};
 
 use crate::port_rules::PortRule;
 use crate::slots::port_rule_slots;
@@ -89,8 +89,8 @@ fn room_left(version: TableVersion, room: Room, own: &PortRule) -> Room
 }
 
 /// The fault of a rule for which there is no room, with its place, unless a rule before it had none.
-pub fn room_told(version: TableVersion, room: Option<Room>, own: &PortRule) -> Option<TextFault>
-    ensures { result ≡ room_told version room own.now }
+pub fn room_fault(version: TableVersion, room: Option<Room>, own: &PortRule) -> Option<TextFault>
+    ensures { result ≡ room_fault version room own.now }
 {
     let room = room?;
     if !is_too_much(version, room, own) {
@@ -114,12 +114,12 @@ pub fn room_after(version: TableVersion, room: Option<Room>, own: &PortRule) -> 
 }
 
 /// The fault of a table that is too long: its first rule for which there is no room.
-pub fn length_told(version: TableVersion, rules: &[PortRule]) -> Option<TextFault>
-    ensures { result ≡ length_told version rules.now }
+pub fn length_fault(version: TableVersion, rules: &[PortRule]) -> Option<TextFault>
+    ensures { result ≡ length_fault version rules.now }
 {
     let mut room = Some(whole_room(version));
     for own in rules {
-        if let Some(fault) = room_told(version, room, own) {
+        if let Some(fault) = room_fault(version, room, own) {
             return Some(fault);
         }
         room = room_after(version, room, own);

@@ -3,11 +3,11 @@
 ghost use Rattle.std.specs.Prelude.{◌≡◌, Some, None, option_map, MatchOption, MatchResult, IfOk, IfErr, codes, bytes_eq, length, [], ◌∷◌};
 ghost use Rattle.spw.specs.Line.{words_of};
 ghost use Rattle.policy_table.specs.Ranges.{range_named, range_text};
-ghost use Rattle.policy_table.specs.Statements.{IsNoPort, IsNoRange, IsNoRuleLine, IsPort, IsRange, IsRuleLine, begins_two, has_version, is_version, next_word, parts_text, range_words, rule_parts, span_text, three_words, word_kind};
+ghost use Rattle.policy_table.specs.Statements.{IsBadPortWord, IsNoRange, IsNoRuleLine, IsPortSuffix, IsRangeLine, IsRuleLine, is_version_two, has_version, is_version, next_word, parts_text, range_words, rule_parts, span_text, three_words, word_kind};
 
 use crate::fields::address_of;
 use crate::lines::{Words, rule_of, words_in};
-use crate::ranges::{NamedRange, NamedRanges, is_name};
+use crate::ranges::{NamedRange, NamedRanges, is_range_name};
 use crate::rules::Rule;
 use crate::statement_faults::StatementFault;
 use basm_lex::before_comment;
@@ -66,9 +66,9 @@ pub fn has_version(line: &str) -> bool
 }
 
 /// Whether a line is `.version 2`.
-#[tactic(auto, unfolding(crate::specs::Statements::begins_two))]
-pub fn begins_two(line: &str) -> bool
-    ensures { result ≡ begins_two line.now }
+#[tactic(auto, unfolding(crate::specs::Statements::is_version_two))]
+pub fn is_version_two(line: &str) -> bool
+    ensures { result ≡ is_version_two line.now }
 {
     let Some((first, rest)) = next_word(before_comment(line)) else {
         return false;
@@ -95,7 +95,7 @@ fn range_words<'a>(ranges: &NamedRanges<'a>, word: &'a str, rest: &'a str) -> Op
     ensures { option_map span_text result
         ≡ range_words ranges.now word.now (words_of rest.now) }
 {
-    if !is_name(word) {
+    if !is_range_name(word) {
         let (high, rest) = next_word(rest)?;
         return Some(Span {
             low: word,
@@ -156,7 +156,7 @@ fn rule_parts<'a>(ranges: &NamedRanges<'a>, text: &'a str) -> Option<RuleParts<'
 
 /// The port that comes after a verdict: `port P`, or nothing.
 fn port_in(text: &str) -> Option<Option<u8>>
-    ensures { MatchOption result (IsNoPort (words_of text.now)) (IsPort (words_of text.now)) }
+    ensures { MatchOption result (IsBadPortWord (words_of text.now)) (IsPortSuffix (words_of text.now)) }
 {
     let Some((word, rest)) = first_word(text) else {
         return Some(None);
@@ -236,13 +236,13 @@ pub fn read_range<'a>(
     text: &'a str,
 ) -> Result<(NamedRange<'a>, bool), StatementFault>
     ensures { MatchResult result
-        (λ r. IsRange ranges.now (words_of text.now) (range_text r.0) r.1)
+        (λ r. IsRangeLine ranges.now (words_of text.now) (range_text r.0) r.1)
         (IsNoRange ranges.now (words_of text.now)) }
 {
     let Some(range) = three_words(text) else {
         return Err(StatementFault::RangeCount(words_in(text)));
     };
-    if !is_name(range.name) {
+    if !is_range_name(range.name) {
         return Err(StatementFault::RangeName);
     }
     if ranges.named(range.name).is_some() {

@@ -2,17 +2,17 @@
 
 ghost use Rattle.std.specs.Prelude.{◌≡◌, ◌<◌, ◌^◌, ◌+◌, ◌++◌, IfOk, OnOk, length, suc, option_map};
 ghost use Rattle.spw.specs.Line.{words_of};
-ghost use Rattle.policy_table.specs.Policies.{reading, reversed_told, rule_told};
+ghost use Rattle.policy_table.specs.Policies.{policy_reading, reversed_fault, placed_rule_fault};
 ghost use Rattle.policy_table.specs.Ranges.{range_text};
-ghost use Rattle.policy_table.specs.Room.{room_told};
-ghost use Rattle.policy_table.specs.Surveys.{FindsLine, HasFaults, empty_survey, first_of_code, has_code, listed, named_by, reported, reversed_at, room_behind, statement_faults, with_bad, with_statement};
+ghost use Rattle.policy_table.specs.Room.{room_fault};
+ghost use Rattle.policy_table.specs.Surveys.{FindsLine, HasFaults, empty_survey, first_of_code, has_code, listed, named_by, reported_fault, reversed_at, room_after_line, statement_faults, with_bad, with_statement};
 
-use crate::checks::rule_told;
-use crate::drafts::{Draft, Statement, code_of, statement_in};
+use crate::checks::placed_rule_fault;
+use crate::partial_tables::{PartialTable, TableStatement, code_of, statement_in};
 use crate::faults::PolicyFault;
 use crate::port_rules::PortRule;
-use crate::ranges::{NamedRange, NamedRanges, is_name};
-use crate::room::{Room, room_after, room_told, whole_room};
+use crate::ranges::{NamedRange, NamedRanges, is_range_name};
+use crate::room::{Room, room_after, room_fault, whole_room};
 use crate::statement_faults::StatementFault;
 use crate::text_faults::TextFault;
 use crate::versions::TableVersion;
@@ -24,7 +24,7 @@ use std::marker::Model;
 /// What the lines of a table said so far, the room that is left, and their faults.
 #[derive(Debug, Drop)]
 struct Survey<'a> {
-    draft: Draft<'a>,
+    partial_table: PartialTable<'a>,
     room: Option<Room>,
     faults: Vec<TextFault>,
 }
@@ -34,7 +34,7 @@ impl<'a> Model for Survey<'a> {
 
     ghost Value = { SurveyValue };
 
-    ghost view = { λ s. survey s.draft s.room s.faults.items };
+    ghost view = { λ s. survey s.partial_table s.room s.faults.items };
 }
 
 /// Adds a fault, if there is one.
@@ -48,8 +48,8 @@ fn push_fault(faults: &mut Vec<TextFault>, fault: Option<TextFault>) -> Result<(
 }
 
 /// The fault of a range that ends before it begins.
-fn range_told(line: usize, reversed: bool) -> Option<TextFault>
-    ensures { result ≡ reversed_told (reversed_at line reversed) }
+fn reversed_range(line: usize, reversed: bool) -> Option<TextFault>
+    ensures { result ≡ reversed_fault (reversed_at line reversed) }
 {
     if reversed {
         Some(TextFault::Line {
@@ -70,10 +70,10 @@ fn push_rule(
     sizes: &MapSizes,
 ) -> Result<(), AllocError>
     ensures { OnOk result (faults.new.items ≡ faults.old.items
-        ++ (listed (room_told version room own.now) ++ listed (rule_told sizes.now own.now))) }
+        ++ (listed (room_fault version room own.now) ++ listed (placed_rule_fault sizes.now own.now))) }
 {
-    push_fault(faults, room_told(version, room, own))?;
-    push_fault(faults, rule_told(own, sizes))
+    push_fault(faults, room_fault(version, room, own))?;
+    push_fault(faults, placed_rule_fault(own, sizes))
 }
 
 /// Adds the faults of what a line says.
@@ -82,26 +82,26 @@ fn push_faults(
     version: TableVersion,
     room: Option<Room>,
     line: usize,
-    statement: &Statement<'_>,
+    statement: &TableStatement<'_>,
     sizes: &MapSizes,
 ) -> Result<(), AllocError>
     ensures { OnOk result (faults.new.items ≡ faults.old.items
         ++ statement_faults version sizes.now room line statement.now) }
 {
     match statement {
-        Statement::Nothing => Ok(()),
-        Statement::Range(_, reversed) => push_fault(faults, range_told(line, *reversed)),
-        Statement::Rule(own) => push_rule(faults, version, room, own, sizes),
+        TableStatement::Nothing => Ok(()),
+        TableStatement::Range(_, reversed) => push_fault(faults, reversed_range(line, *reversed)),
+        TableStatement::Rule(own) => push_rule(faults, version, room, own, sizes),
     }
 }
 
 /// The room after what a line says.
-fn room_behind(version: TableVersion, room: Option<Room>, statement: &Statement<'_>) -> Option<Room>
-    ensures { result ≡ room_behind version room statement.now }
+fn room_after_line(version: TableVersion, room: Option<Room>, statement: &TableStatement<'_>) -> Option<Room>
+    ensures { result ≡ room_after_line version room statement.now }
 {
     match statement {
-        Statement::Nothing | Statement::Range(_, _) => room,
-        Statement::Rule(own) => room_after(version, room, own),
+        TableStatement::Nothing | TableStatement::Range(_, _) => room,
+        TableStatement::Rule(own) => room_after(version, room, own),
     }
 }
 
@@ -111,7 +111,7 @@ fn named_by<'a>(ranges: &NamedRanges<'_>, code: &'a str) -> Option<NamedRange<'a
 {
     let (first, rest) = first_word(code)?;
     let (name, _rest) = first_word(rest)?;
-    if first == ".range" && is_name(name) && ranges.named(name).is_none() {
+    if first == ".range" && is_range_name(name) && ranges.named(name).is_none() {
         Some(NamedRange {
             name,
             low: "00000000",
@@ -128,7 +128,7 @@ impl<'a> Survey<'a> {
         ensures { result ≡ empty_survey version }
     {
         Survey {
-            draft: Draft::new(alloc),
+            partial_table: PartialTable::new(alloc),
             room: Some(whole_room(version)),
             faults: Vec::new(alloc),
         }
@@ -140,7 +140,7 @@ impl<'a> Survey<'a> {
         version: TableVersion,
         sizes: &MapSizes,
         line: usize,
-        statement: Statement<'a>,
+        statement: TableStatement<'a>,
     ) -> Result<(), AllocError>
         ensures { OnOk result
             (self.new ≡ with_statement version sizes.now line statement.entry self.old) }
@@ -153,8 +153,8 @@ impl<'a> Survey<'a> {
             &statement,
             sizes,
         )?;
-        self.room = room_behind(version, self.room, &statement);
-        self.draft.add(line, statement)
+        self.room = room_after_line(version, self.room, &statement);
+        self.partial_table.add(line, statement)
     }
 
     /// Takes the line of this number, which is no statement, because of this fault.
@@ -167,9 +167,9 @@ impl<'a> Survey<'a> {
     ) -> Result<(), AllocError>
         ensures { OnOk result (self.new ≡ with_bad version line text.now fault self.old) }
     {
-        let named = named_by(self.draft.ranges(), code_of(version, text));
+        let named = named_by(self.partial_table.ranges(), code_of(version, text));
         if let Some(range) = named {
-            self.draft.add_range(line, range, false)?;
+            self.partial_table.add_range(line, range, false)?;
         }
         self.faults
             .push(TextFault::Line { line, fault })
@@ -187,7 +187,7 @@ impl<'a> Survey<'a> {
     ) -> Result<(), AllocError>
         ensures { OnOk result (FindsLine version sizes.now line text.now self.old self.new) }
     {
-        match statement_in(version, self.draft.ranges(), line, text) {
+        match statement_in(version, self.partial_table.ranges(), line, text) {
             Ok(statement) => self.add(version, sizes, line, statement),
             Err(fault) => self.add_bad(version, line, text, fault),
         }
@@ -208,7 +208,7 @@ pub fn survey_lines(
 ) -> Result<Vec<TextFault>, AllocError>
     requires { before + length lines < 2 ^ 64 }
     ensures { IfOk result
-        (λ all. HasFaults sizes.now (reading version before lines.entry) all.items) }
+        (λ all. HasFaults sizes.now (policy_reading version before lines.entry) all.items) }
 {
     let mut survey = Survey::new(alloc, version);
     let mut line = before;
@@ -240,8 +240,8 @@ fn first_of_code(code: u8, faults: &[TextFault]) -> Option<TextFault>
 
 /// The fault that is reported of all. It is the first line that is none of its version, else the first rule for which
 /// there is no room, else the first.
-pub fn reported(faults: &[TextFault]) -> Option<TextFault>
-    ensures { result ≡ reported faults.now }
+pub fn reported_fault(faults: &[TextFault]) -> Option<TextFault>
+    ensures { result ≡ reported_fault faults.now }
 {
     if let Some(fault) = first_of_code(PolicyFault::BadLine.code(), faults) {
         return Some(fault);

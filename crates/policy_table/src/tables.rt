@@ -5,11 +5,11 @@ ghost use Rattle.std.specs.Vec.{vec_capacity};
 ghost use Rattle.machine.specs.Memory.{header};
 ghost use Rattle.spw.specs.Line.{lines_of};
 ghost use Rattle.policy_table.specs.FirstFault.{compile_fault};
-ghost use Rattle.policy_table.specs.Counts.{after_draws, told_on};
+ghost use Rattle.policy_table.specs.Counts.{after_draws, reported_on};
 ghost use Rattle.policy_table.specs.Limits.{FitsFields};
 ghost use Rattle.policy_table.specs.Lines.{IsReadFault, IsTable};
 ghost use Rattle.policy_table.specs.Matching.{matched};
-ghost use Rattle.policy_table.specs.Meaning.{decision, told_by};
+ghost use Rattle.policy_table.specs.Meaning.{decision, answers_in_turn};
 ghost use Rattle.policy_table.specs.Passing.{passed_rules};
 
 use crate::checks::compile_fault;
@@ -56,9 +56,9 @@ fn decide_by(
 ) -> u64
     requires { vec_len calls.old + length rules.now ≤ vec_capacity calls.old }
     ensures draws { calls.new.items ≡ calls.old.items
-        ++ (decision rules.now (header front.now tail.now) (told_by answers.now)).0 }
+        ++ (decision rules.now (header front.now tail.now) (answers_in_turn answers.now)).0 }
     ensures verdict { result
-        ≡ (decision rules.now (header front.now tail.now) (told_by answers.now)).1 }
+        ≡ (decision rules.now (header front.now tail.now) (answers_in_turn answers.now)).1 }
 {
     first_rule_matches();
     let mut answers = Answers::new(answers);
@@ -128,9 +128,9 @@ impl Table {
         calls: &mut Vec<Call>,
     ) -> Result<u64, AllocError>
         ensures draws { OnOk result (calls.new.items ≡ calls.old.items
-            ++ (decision self.now (header front.now tail.now) (told_by answers.now)).0) }
+            ++ (decision self.now (header front.now tail.now) (answers_in_turn answers.now)).0) }
         ensures verdict { IfOk result (λ verdict. verdict
-            ≡ (decision self.now (header front.now tail.now) (told_by answers.now)).1) }
+            ≡ (decision self.now (header front.now tail.now) (answers_in_turn answers.now)).1) }
         ensures kept { OnErr result (calls.new.items ≡ calls.old.items) }
     {
         calls.reserve(self.rules.len())?;
@@ -151,13 +151,13 @@ impl Table {
         calls: &mut Vec<Call>,
     ) -> Result<Match, AllocError>
         ensures found { IfOk result (λ found. found ≡ matched self.now (header front.now tail.now)
-            (told_on counts.old self.now (header front.now tail.now))) }
+            (reported_on counts.old self.now (header front.now tail.now))) }
         ensures draws { OnOk result (calls.new.items ≡ calls.old.items
             ++ (decision self.now (header front.now tail.now)
-            (told_on counts.old self.now (header front.now tail.now))).0) }
+            (reported_on counts.old self.now (header front.now tail.now))).0) }
         ensures counts { OnOk result (counts.new ≡ after_draws counts.old
             (decision self.now (header front.now tail.now)
-            (told_on counts.old self.now (header front.now tail.now))).0) }
+            (reported_on counts.old self.now (header front.now tail.now))).0) }
         ensures kept { OnErr result ((calls.new.items ≡ calls.old.items)
             × (counts.new ≡ counts.old)) }
     {

@@ -10,18 +10,18 @@ use Rattle.node_programs.specs.declared.publishes.Publish.{Publish}
 use Rattle.node_parts.specs.Passes.{PassValue}
 use Rattle.node_parts.specs.Applied.{share_of}
 use Rattle.annals.specs.declared.deed.Link.{Link}
-use Rattle.annals.specs.Banks.{IsDone, takes}
+use Rattle.annals.specs.Banks.{IsDoneAtBank, takes}
 use Rattle.annals.specs.Publishes.{publishes_of}
-use Rattle.target.specs.Finished.{IsDoneBehind}
-use Rattle.ports.specs.Due.{Judging, Deed, Standing, stand, Worked, IsBanked, IsWindowed, IsJudged, judgings}
+use Rattle.target.specs.Finished.{IsDoneAfter}
+use Rattle.ports.specs.Due.{Judging, Deed, Standing, stand, Worked, IsBanked, IsWindowEnd, IsJudgedInRun, judgings}
 use Rattle.ports.specs.Due.Deed.{Dropped, Answered, Judged}
 use Rattle.ports.specs.Laws.{HasEntered, IsByPublished, IsByShown, EntriesFollow}
 use Rattle.ports.proofs.Following.{dealt_stays, judged_by, judged_shown}
 use Rattle.lemmas.proofs.Prefixes.{prefix_same, prefix_trans}
 
 -- whatever the publishes are that those begin which the port had seen, the command was judged by one of them
-abbrev pub IsJudgedBehind : ℕ → Judging → PassValue → Type 0
-IsJudgedBehind port j h = (published : List Publish) → IsPrefix h.programs published → IsByPublished published port j
+abbrev pub IsJudgedAfter : ℕ → Judging → PassValue → Type 0
+IsJudgedAfter port j h = (published : List Publish) → IsPrefix h.programs published → IsByPublished published port j
 
 pub left_some : (b : BankValue) (share : ShareValue) (j : JudgedValue) → has_room b j.port ≡ true → number_left b share j ≡ Some share.number
 left_some b share j room = ap (λ r. if r then Some share.number else None) room
@@ -34,16 +34,16 @@ not_both true b e no_both = no_both
 not_both false b e no_both = absurd cc
 
 -- a command that left an entry was done, with the port's share of its place
-pub done_behind : (j : Judging) (h after : Standing) (is : IsBanked j h after) → j.entered ≡ true
-    → IsDoneBehind h.pass.programs is.ended.before.chain.number h.front after.front (share_of h.pass j.judged.place) j.judged is.ended.result j.reply
-done_behind j h after is left =
+pub done_after : (j : Judging) (h after : Standing) (is : IsBanked j h after) → j.entered ≡ true
+    → IsDoneAfter h.pass.programs is.ended.before.chain.number h.front after.front (share_of h.pass j.judged.place) j.judged is.ended.result j.reply
+done_after j h after is left =
     let share = share_of h.pass j.judged.place in let before = is.ended.before in let end = is.ended.finished in
     let parts = and_parts (takes before share j.judged) (has_room before.bank j.judged.port) (sym is.entered ∙ left) in
     let number = (end.applied parts.0).number ∙ left_some before.bank share j.judged parts.1 in
-    subst (λ (o : Option ℕ). IfSome o (λ n. IsDoneBehind h.pass.programs before.chain.number h.front after.front share j.judged is.ended.result j.reply)) number end.done
+    subst (λ (o : Option ℕ). IfSome o (λ n. IsDoneAfter h.pass.programs before.chain.number h.front after.front share j.judged is.ended.result j.reply)) number end.done
 
 -- a command that was done after what somebody saw was done after what this one had seen before
-pub done_since : (bank : ℕ) (known first reached : List Link) (share : ShareValue) (j : JudgedValue) (result : Applied) (reply : List ℕ) → IsPrefix known first → IsDone bank first reached share j result reply → IsDone bank known reached share j result reply
+pub done_since : (bank : ℕ) (known first reached : List Link) (share : ShareValue) (j : JudgedValue) (result : Applied) (reply : List ℕ) → IsPrefix known first → IsDoneAtBank bank first reached share j result reply → IsDoneAtBank bank known reached share j result reply
 done_since bank known first reached share j result reply begins done = record {
   place = done.place;
   last = record { before = done.last.before; next = done.last.next; log = done.last.log; seen = prefix_trans known first done.last.before begins done.last.seen };
@@ -60,15 +60,15 @@ pub shown_begins : (known seen : List Link) (j : Judging) → IsByShown known se
 shown_begins known seen j is = prefix_trans known is.at seen is.after is.before
 
 -- so it is in the history after the program that judged it
-unfoldable pub entered : (port : ℕ) (known : List Link) (j : Judging) (h after : Standing) → IsJudgedBehind port j h.pass → IsByShown known h.front j → IsBanked j h after → j.entered ≡ true → HasEntered port known after.front j
-unfolding done_since done_behind
-entered port known j h after by moment is left = let behind = done_behind j h after is left in record {
+unfoldable pub entered : (port : ℕ) (known : List Link) (j : Judging) (h after : Standing) → IsJudgedAfter port j h.pass → IsByShown known h.front j → IsBanked j h after → j.entered ≡ true → HasEntered port known after.front j
+unfolding done_since done_after
+entered port known j h after by moment is left = let following = done_after j h after is left in record {
   bank = is.ended.before.chain.number;
   share = share_of h.pass j.judged.place;
   result = is.ended.result;
-  done = done_since is.ended.before.chain.number known h.front after.front (share_of h.pass j.judged.place) j.judged is.ended.result j.reply (shown_begins known h.front j moment) behind.done;
-  by = by (publishes_of behind.done.last.before) behind.published;
-  moment = shown_before known h.front behind.done.last.before j behind.done.last.seen moment;
+  done = done_since is.ended.before.chain.number known h.front after.front (share_of h.pass j.judged.place) j.judged is.ended.result j.reply (shown_begins known h.front j moment) following.done;
+  by = by (publishes_of following.done.last.before) following.published;
+  moment = shown_before known h.front following.done.last.before j following.done.last.seen moment;
 }
 
 -- one that left none added nothing
@@ -84,7 +84,7 @@ not_entered j h after is none =
     subst (λ (o : Option ℕ). IfNone o (after.front ≡ h.front)) number end.none
 
 -- what a judged command did to the history that its port knows
-step : (port : ℕ) (known : List Link) (j : Judging) (h after : Standing) → IsJudgedBehind port j h.pass → IsByShown known h.front j → IsBanked j h after ⊎ IsWindowed j h after → MatchBool j.entered (HasEntered port known after.front j) (IsPrefix known after.front)
+step : (port : ℕ) (known : List Link) (j : Judging) (h after : Standing) → IsJudgedAfter port j h.pass → IsByShown known h.front j → IsBanked j h after ⊎ IsWindowEnd j h after → MatchBool j.entered (HasEntered port known after.front j) (IsPrefix known after.front)
 step port known j h after by moment (inl banked) = elim (cases_Bool j.entered) [
   | inl left ↦ subst (λ b. MatchBool b (HasEntered port known after.front j) (IsPrefix known after.front)) (sym left) (entered port known j h after by moment banked left)
   | inr none ↦ subst (λ b. MatchBool b (HasEntered port known after.front j) (IsPrefix known after.front)) (sym none)

@@ -19,14 +19,14 @@ use Rattle.node_programs.specs.declared.publishes.Publish.{Publish}
 use Rattle.node_programs.specs.Published.{judging_program}
 use Rattle.node_parts.specs.Passes.{PassValue, SeatValue}
 use Rattle.node_parts.specs.Slots.{slot_of}
-use Rattle.node_parts.specs.Steps.{IsJudgement, IsVerdict}
+use Rattle.node_parts.specs.Steps.{IsJudgement, IsPacketVerdict}
 use Rattle.node_parts.specs.Applied.{share_of, with_share}
 use Rattle.node_parts.specs.Loaded.{EndsAs}
 use Rattle.node_parts.specs.Served.{EndsAtWindow}
-use Rattle.ports.specs.Due.{Judging, Deed, Standing, stand, Worked, IsBanked, IsWindowed, IsJudged, IsDealt, judgings}
+use Rattle.ports.specs.Due.{Judging, Deed, Standing, stand, Worked, IsBanked, IsWindowEnd, IsJudgedInRun, IsDealt, judgings}
 use Rattle.ports.specs.Due.Deed.{Dropped, Answered, Judged}
 use Rattle.annals.specs.Shown.{shown_of}
-use Rattle.ports.specs.Laws.{IsByPublished, IsByShown, calls_of, is_bank_of, is_entry_at, entries_at, number_at, SharesCount}
+use Rattle.ports.specs.Laws.{IsByPublished, IsByShown, calls_of_runs, is_bank_of, is_entry_at, entry_count_at, next_number_at, SharesCount}
 use Rattle.ports.proofs.Keeping.{end_keeps}
 use Rattle.lemmas.proofs.Prefixes.{prefix_same, prefix_trans}
 
@@ -71,7 +71,7 @@ run_stays h between p j is = record {
   count = ap (λ (x : PassValue). length x.shares) is.asked;
 }
 
-end_stays : (j : Judging) (between after : Standing) → IsBanked j between after ⊎ IsWindowed j between after → Stays between.pass after.pass
+end_stays : (j : Judging) (between after : Standing) → IsBanked j between after ⊎ IsWindowEnd j between after → Stays between.pass after.pass
 end_stays j between after end = let keeps = end_keeps j between after end in record {
   programs = keeps.programs;
   port = keeps.port;
@@ -104,11 +104,11 @@ by_more some more port port' j longer same is = record {
   seen = is.seen;
   begins = prefix_trans is.seen some more is.begins longer;
   shown = is.shown;
-  verdict = subst (λ n. IsVerdict j.program n j.calls j.judged.packet j.judged.verdict) same is.verdict;
+  verdict = subst (λ n. IsPacketVerdict j.program n j.calls j.judged.packet j.judged.verdict) same is.verdict;
 }
 
 -- a command that was judged is so by a program of any publishes that all begin which its port had seen then
-pub judged_by : (j : Judging) (p : Cargo) (h after : Standing) (published : List Publish) (is : IsJudged j p h after) → IsPrefix is.between.programs published → IsByPublished published h.pass.port j
+pub judged_by : (j : Judging) (p : Cargo) (h after : Standing) (published : List Publish) (is : IsJudgedInRun j p h after) → IsPrefix is.between.programs published → IsByPublished published h.pass.port j
 judged_by j p h after published is begins =
     let run = is.judgement in let for = run.judged_for in
     let saw : run.seen ≡ is.between.programs = sym (ap (λ (x : PassValue). x.programs) run.asked) in
@@ -117,12 +117,12 @@ judged_by j p h after published is begins =
       begins = subst (λ l. IsPrefix l published) (sym saw) begins;
       shown = subst (λ c. judging_program run.seen (slot_of (command_kind (command_of c)) j.judged.place) ≡ Some (j.program, j.judged.generation)) (sym for.packet)
           (subst (λ a. judging_program run.seen (slot_of (command_kind (command_of p)) j.judged.place) ≡ Some (a, j.judged.generation)) (sym is.program) run.taken.shown);
-      verdict = subst (λ c. IsVerdict j.program h.pass.port j.calls c j.judged.verdict) (sym for.packet)
-          (subst (λ a. IsVerdict a h.pass.port j.calls p j.judged.verdict) (sym is.program) (subst (λ l. IsVerdict run.program h.pass.port l p j.judged.verdict) (sym is.calls) for.verdict));
+      verdict = subst (λ c. IsPacketVerdict j.program h.pass.port j.calls c j.judged.verdict) (sym for.packet)
+          (subst (λ a. IsPacketVerdict a h.pass.port j.calls p j.judged.verdict) (sym is.program) (subst (λ l. IsPacketVerdict run.program h.pass.port l p j.judged.verdict) (sym is.calls) for.verdict));
     }
 
 -- and by the one that readers saw in its slot at the moment of its take
-pub judged_shown : (j : Judging) (p : Cargo) (h after : Standing) → (is : IsJudged j p h after) → IsByShown h.front is.reached j
+pub judged_shown : (j : Judging) (p : Cargo) (h after : Standing) → (is : IsJudgedInRun j p h after) → IsByShown h.front is.reached j
 judged_shown j p h after is =
     let run = is.judgement in
     let saw : shown_of is.moment.at ≡ run.seen = is.moment.seen ∙ ap (λ (x : PassValue). x.programs) run.asked in
@@ -135,7 +135,7 @@ judged_shown j p h after is =
           (subst (λ a. judging_program run.seen (slot_of (command_kind (command_of p)) j.judged.place) ≡ Some (a, j.judged.generation)) (sym is.program) run.taken.shown));
     }
 
-judged_published : (j : Judging) (p : Cargo) (h after : Standing) → IsJudged j p h after → IsByPublished after.pass.programs h.pass.port j
+judged_published : (j : Judging) (p : Cargo) (h after : Standing) → IsJudgedInRun j p h after → IsByPublished after.pass.programs h.pass.port j
 judged_published j p h after is = judged_by j p h after after.pass.programs is (end_stays j (stand is.between h.asked is.reached) after is.ended).programs
 
 pub programs_were_published : (h after : Standing) (ps : List Cargo) (ds : List Deed) → Worked h ps ds after → All (IsByPublished after.pass.programs h.pass.port) (judgings ds)
@@ -155,21 +155,21 @@ programs_were_published h after (p ∷ ps) (Judged j ∷ ds) w =
 
 -- ---- each run asked once
 
-judged_asks : (j : Judging) (p : Cargo) (h after : Standing) → IsJudged j p h after → after.pass.seat.asked ≡ h.pass.seat.asked ++ j.calls
+judged_asks : (j : Judging) (p : Cargo) (h after : Standing) → IsJudgedInRun j p h after → after.pass.seat.asked ≡ h.pass.seat.asked ++ j.calls
 judged_asks j p h after is =
     let end = end_keeps j (stand is.between h.asked is.reached) after is.ended in
     ap (λ (s : SeatValue). s.asked) end.seat ∙ ap (λ (x : PassValue). x.seat.asked) is.judgement.asked ∙ ap (λ l. h.pass.seat.asked ++ l) (sym is.calls)
 
-pub ask_once : (h after : Standing) (ps : List Cargo) (ds : List Deed) → Worked h ps ds after → after.pass.seat.asked ≡ h.pass.seat.asked ++ calls_of ds
+pub ask_once : (h after : Standing) (ps : List Cargo) (ds : List Deed) → Worked h ps ds after → after.pass.seat.asked ≡ h.pass.seat.asked ++ calls_of_runs ds
 ask_once h after [] [] w = ap (λ (x : Standing). x.pass.seat.asked) w ∙ sym (append-nil h.pass.seat.asked)
 ask_once h after [] (d ∷ ds) w = absurd w
 ask_once h after (p ∷ ps) [] w = absurd w
 ask_once h after (p ∷ ps) (Dropped ∷ ds) w =
-    ask_once w.0 after ps ds w.2 ∙ ap (λ (x : Standing). x.pass.seat.asked ++ calls_of ds) w.1.same
+    ask_once w.0 after ps ds w.2 ∙ ap (λ (x : Standing). x.pass.seat.asked ++ calls_of_runs ds) w.1.same
 ask_once h after (p ∷ ps) (Answered reply ∷ ds) w =
-    ask_once w.0 after ps ds w.2 ∙ ap (λ (x : Standing). x.pass.seat.asked ++ calls_of ds) w.1.same
+    ask_once w.0 after ps ds w.2 ∙ ap (λ (x : Standing). x.pass.seat.asked ++ calls_of_runs ds) w.1.same
 ask_once h after (p ∷ ps) (Judged j ∷ ds) w =
-    ask_once w.0 after ps ds w.2 ∙ ap (λ l. l ++ calls_of ds) (judged_asks j p h w.0 w.1) ∙ append_assoc h.pass.seat.asked j.calls (calls_of ds)
+    ask_once w.0 after ps ds w.2 ∙ ap (λ l. l ++ calls_of_runs ds) (judged_asks j p h w.0 w.1) ∙ append_assoc h.pass.seat.asked j.calls (calls_of_runs ds)
 
 -- ---- shares count entries
 
@@ -196,17 +196,17 @@ is_at entered k n same = let here : eqb n k ≡ true = grind (arith, nat_tests) 
     rw here (elim entered as (λ e. bit (e && true) ≡ bit e) [ true ↦ refl | false ↦ refl ])
 
 -- the port's numbers if it has another share of one bank
-shared_number : (k n : ℕ) (h : PassValue) (share : ShareValue) (entered : Bool) → share.number ≡ number_at h n + bit entered → k < length h.shares → number_at (with_share h (Bank n) share) k ≡ number_at h k + bit (entered && eqb n k)
+shared_number : (k n : ℕ) (h : PassValue) (share : ShareValue) (entered : Bool) → share.number ≡ next_number_at h n + bit entered → k < length h.shares → next_number_at (with_share h (Bank n) share) k ≡ next_number_at h k + bit (entered && eqb n k)
 shared_number k n h share entered is below = elim (cases_eq k n) [
   | inl same ↦
       let at : n < length h.shares = subst (λ i. i < length h.shares) same below in
       let one = is_at entered k n same in
-      let read : number_at (with_share h (Bank n) share) k ≡ share.number = ap (λ (s : ShareValue). s.number) (get_or-set_at h.shares n k share (first_share h.port) same at) in
-      let old : number_at h k ≡ number_at h n = ap (number_at h) same in
+      let read : next_number_at (with_share h (Bank n) share) k ≡ share.number = ap (λ (s : ShareValue). s.number) (get_or-set_at h.shares n k share (first_share h.port) same at) in
+      let old : next_number_at h k ≡ next_number_at h n = ap (next_number_at h) same in
       omega (arith, one, read, old, is)
   | inr apart ↦
       let none = not_at entered k n apart in
-      let read : number_at (with_share h (Bank n) share) k ≡ number_at h k = ap (λ (s : ShareValue). s.number) (get_or-set_other h.shares n k share (first_share h.port) apart) in
+      let read : next_number_at (with_share h (Bank n) share) k ≡ next_number_at h k = ap (λ (s : ShareValue). s.number) (get_or-set_other h.shares n k share (first_share h.port) apart) in
       omega (arith, none, read)
 ]
 
@@ -240,36 +240,36 @@ counted_share j h after is =
           (ap (λ (s : ShareValue). s.number) (end.refused misfit).share_is)
     ]
 
-banked_number : (k : ℕ) (j : Judging) (h after : Standing) → IsBanked j h after → k < length h.pass.shares → number_at after.pass k ≡ number_at h.pass k + one_at k j
+banked_number : (k : ℕ) (j : Judging) (h after : Standing) → IsBanked j h after → k < length h.pass.shares → next_number_at after.pass k ≡ next_number_at h.pass k + one_at k j
 banked_number k j h after is below =
     let share = is.ended.finished.share in
-    let at : (share_of h.pass j.judged.place).number ≡ number_at h.pass is.number = ap (λ place. (share_of h.pass place).number) is.place in
-    let there : share.number ≡ number_at h.pass is.number + bit j.entered = counted_share j h after is ∙ ap (λ m. m + bit j.entered) at in
+    let at : (share_of h.pass j.judged.place).number ≡ next_number_at h.pass is.number = ap (λ place. (share_of h.pass place).number) is.place in
+    let there : share.number ≡ next_number_at h.pass is.number + bit j.entered = counted_share j h after is ∙ ap (λ m. m + bit j.entered) at in
     let counted = shared_number k is.number h.pass share j.entered there below in
-    subst (λ x. number_at x k ≡ number_at h.pass k + one_at k j) (sym is.ended.finished.shares)
-    (subst (λ place. number_at (with_share h.pass place share) k ≡ number_at h.pass k + bit (j.entered && is_bank_of k place)) (sym is.place) counted)
+    subst (λ x. next_number_at x k ≡ next_number_at h.pass k + one_at k j) (sym is.ended.finished.shares)
+    (subst (λ place. next_number_at (with_share h.pass place share) k ≡ next_number_at h.pass k + bit (j.entered && is_bank_of k place)) (sym is.place) counted)
 
-load_number : (k : ℕ) (line : Option Status) (h after : PassValue) (old new : List Publish) (j : JudgedValue) (result : Status) → EndsAs line h after old new j result → number_at after k ≡ number_at h k
-load_number k (Some status) h after old new j result end = ap (λ x. number_at x k) end.1
-load_number k None h after old new j result (inl loaded) = ap (λ x. number_at x k) loaded.holder_after
-load_number k None h after old new j result (inr refused) = ap (λ x. number_at x k) refused.holder_after
+load_number : (k : ℕ) (line : Option Status) (h after : PassValue) (old new : List Publish) (j : JudgedValue) (result : Status) → EndsAs line h after old new j result → next_number_at after k ≡ next_number_at h k
+load_number k (Some status) h after old new j result end = ap (λ x. next_number_at x k) end.1
+load_number k None h after old new j result (inl loaded) = ap (λ x. next_number_at x k) loaded.holder_after
+load_number k None h after old new j result (inr refused) = ap (λ x. next_number_at x k) refused.holder_after
 
-window_number : (k : ℕ) (place : Place) (h after : PassValue) (old new : List Publish) (j : JudgedValue) (result : Status) (reply : List ℕ) → EndsAtWindow place h after old new j result reply → number_at after k ≡ number_at h k
+window_number : (k : ℕ) (place : Place) (h after : PassValue) (old new : List Publish) (j : JudgedValue) (result : Status) (reply : List ℕ) → EndsAtWindow place h after old new j result reply → next_number_at after k ≡ next_number_at h k
 window_number k (Bank n) h after old new j result reply end = absurd end
-window_number k Staging h after old new j result reply end = ap (λ x. number_at x k) end.0.rest
-window_number k LoadResult h after old new j result reply end = ap (λ x. number_at x k) end.0.rest
+window_number k Staging h after old new j result reply end = ap (λ x. next_number_at x k) end.0.rest
+window_number k LoadResult h after old new j result reply end = ap (λ x. next_number_at x k) end.0.rest
 window_number k Control h after old new j result reply end = load_number k _ h after old new j result end.ended
 
-end_number : (k : ℕ) (j : Judging) (h after : Standing) → IsBanked j h after ⊎ IsWindowed j h after → k < length h.pass.shares → number_at after.pass k ≡ number_at h.pass k + one_at k j
+end_number : (k : ℕ) (j : Judging) (h after : Standing) → IsBanked j h after ⊎ IsWindowEnd j h after → k < length h.pass.shares → next_number_at after.pass k ≡ next_number_at h.pass k + one_at k j
 end_number k j h after (inl banked) below = banked_number k j h after banked below
 end_number k j h after (inr is) below =
     let same = window_number k j.judged.place h.pass after.pass is.old is.new j.judged is.result j.reply is.ended in
     let none = no_entry k j.entered j.judged.place is.entered in
     omega (arith, same, none)
 
-pub judged_number : (k : ℕ) (j : Judging) (p : Cargo) (h after : Standing) → IsJudged j p h after → k < length h.pass.shares → number_at after.pass k ≡ number_at h.pass k + one_at k j
+pub judged_number : (k : ℕ) (j : Judging) (p : Cargo) (h after : Standing) → IsJudgedInRun j p h after → k < length h.pass.shares → next_number_at after.pass k ≡ next_number_at h.pass k + one_at k j
 judged_number k j p h after is below =
-    let same : number_at is.between k ≡ number_at h.pass k = ap (λ x. number_at x k) is.judgement.asked in
+    let same : next_number_at is.between k ≡ next_number_at h.pass k = ap (λ x. next_number_at x k) is.judgement.asked in
     let count = (run_stays h.pass is.between p j.judged is.judgement).count in
     let end = end_number k j (stand is.between h.asked is.reached) after is.ended (omega (arith, count, below)) in
     omega (arith, same, end)
@@ -280,15 +280,15 @@ entries_more k j js = elim (is_entry_at k j) as (λ t. length (cond t (j ∷ fil
   | false ↦ omega arith
 ]
 
-numbers_count : (k : ℕ) (h after : Standing) (ps : List Cargo) (ds : List Deed) → Worked h ps ds after → k < length h.pass.shares → number_at after.pass k ≡ number_at h.pass k + entries_at k ds
-numbers_count k h after [] [] w below = let same = ap (λ (x : Standing). number_at x.pass k) w in omega (arith, same)
+numbers_count : (k : ℕ) (h after : Standing) (ps : List Cargo) (ds : List Deed) → Worked h ps ds after → k < length h.pass.shares → next_number_at after.pass k ≡ next_number_at h.pass k + entry_count_at k ds
+numbers_count k h after [] [] w below = let same = ap (λ (x : Standing). next_number_at x.pass k) w in omega (arith, same)
 numbers_count k h after [] (d ∷ ds) w below = absurd w
 numbers_count k h after (p ∷ ps) [] w below = absurd w
 numbers_count k h after (p ∷ ps) (Dropped ∷ ds) w below =
-    subst (λ (x : Standing). number_at after.pass k ≡ number_at x.pass k + entries_at k ds) w.1.same
+    subst (λ (x : Standing). next_number_at after.pass k ≡ next_number_at x.pass k + entry_count_at k ds) w.1.same
     (numbers_count k w.0 after ps ds w.2 (subst (λ (x : Standing). k < length x.pass.shares) (sym w.1.same) below))
 numbers_count k h after (p ∷ ps) (Answered reply ∷ ds) w below =
-    subst (λ (x : Standing). number_at after.pass k ≡ number_at x.pass k + entries_at k ds) w.1.same
+    subst (λ (x : Standing). next_number_at after.pass k ≡ next_number_at x.pass k + entry_count_at k ds) w.1.same
     (numbers_count k w.0 after ps ds w.2 (subst (λ (x : Standing). k < length x.pass.shares) (sym w.1.same) below))
 numbers_count k h after (p ∷ ps) (Judged j ∷ ds) w below =
     let count = (dealt_stays (Judged j) p h w.0 w.1).count in

@@ -18,7 +18,7 @@ use Rattle.annals.specs.Chains.{Due, done_for}
 use Rattle.annals.specs.Publishes.{publishes_of}
 use Rattle.target.specs.Loads.{HasAskedForLoad}
 use Rattle.target.specs.Passes.{PortPass}
-use Rattle.ports.specs.Due.{Judging, Standing, HasFinished, HasLoadEnd, HasMet, IsBanked, IsWindowed}
+use Rattle.ports.specs.Due.{Judging, Standing, HasFinished, HasLoadEnd, HasMet, IsBanked, IsWindowEnd}
 use Rattle.lemmas.proofs.Prefixes.{prefix_same}
 
 -- a port as it was, except for its shares, its staging, and the programs that it may have seen more
@@ -113,6 +113,6 @@ window_keeps LoadResult h after old new j result reply end = staged_keeps h afte
 window_keeps Control h after old new j result reply end = load_keeps _ h after old new j result end.ended
 
 -- how a judged command ends leaves the port as it was, except for its shares, its staging and its programs
-pub end_keeps : (judging : Judging) (between after : Standing) → IsBanked judging between after ⊎ IsWindowed judging between after → Keeps between.pass after.pass
+pub end_keeps : (judging : Judging) (between after : Standing) → IsBanked judging between after ⊎ IsWindowEnd judging between after → Keeps between.pass after.pass
 end_keeps judging between after (inl banked) = finish_keeps between.front after.front between.pass after.pass between.asked after.asked judging.judged judging.reply banked.ended
 end_keeps judging between after (inr windowed) = window_keeps judging.judged.place between.pass after.pass windowed.old windowed.new judging.judged windowed.result judging.reply windowed.ended

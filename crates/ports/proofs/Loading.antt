@@ -11,9 +11,9 @@ use Rattle.annals.specs.declared.deed.Link.{Link}
 use Rattle.annals.specs.Chains.{Due, done_for}
 use Rattle.annals.specs.Publishes.{EntriesAreNoLoads, LoadsAreListed, loads_in}
 use Rattle.target.specs.Loads.{AsksForLoad}
-use Rattle.ports.specs.Due.{Judging, Deed, Standing, stand, Worked, IsBanked, IsWindowed, IsJudged, judgings}
+use Rattle.ports.specs.Due.{Judging, Deed, Standing, stand, Worked, IsBanked, IsWindowEnd, IsJudgedInRun, judgings}
 use Rattle.ports.specs.Due.Deed.{Dropped, Answered, Judged}
-use Rattle.ports.specs.Laws.{WorkersPublishesAreAll, loaded_by, with_loaded}
+use Rattle.ports.specs.Laws.{WorkersPublishesAreAll, publishes_of_commands, with_loaded}
 use Rattle.ports.proofs.Following.{worked_stays}
 
 module _ (no_loads : EntriesAreNoLoads) (listed : LoadsAreListed) where
@@ -32,7 +32,7 @@ module _ (no_loads : EntriesAreNoLoads) (listed : LoadsAreListed) where
   load_loads None port old new asked asks is = ap loads_in is.1 ∙ sym (append-nil (loads_in asked))
   load_loads (Some publish) port old new asked asks is = ap loads_in is.1 ∙ listed port asked publish
 
-  end_loads : (j : Judging) (h after : Standing) → IsBanked j h after ⊎ IsWindowed j h after → loads_in after.asked ≡ loads_in h.asked ++ with_loaded j.loaded []
+  end_loads : (j : Judging) (h after : Standing) → IsBanked j h after ⊎ IsWindowEnd j h after → loads_in after.asked ≡ loads_in h.asked ++ with_loaded j.loaded []
   end_loads j h after (inl banked) = banked_loads j h after banked
   end_loads j h after (inr windowed) = load_loads j.loaded h.pass.port windowed.old windowed.new h.asked after.asked windowed.asks_for
 
@@ -41,16 +41,16 @@ module _ (no_loads : EntriesAreNoLoads) (listed : LoadsAreListed) where
   with_rest (Some p) ps = refl
 
   -- the port asked for the publishes of its commands, in order
-  pub loads_asked : (h after : Standing) (ps : List Cargo) (ds : List Deed) → Worked h ps ds after → loads_in after.asked ≡ loads_in h.asked ++ loaded_by (judgings ds)
+  pub loads_asked : (h after : Standing) (ps : List Cargo) (ds : List Deed) → Worked h ps ds after → loads_in after.asked ≡ loads_in h.asked ++ publishes_of_commands (judgings ds)
   loads_asked h after [] [] w = ap (λ (x : Standing). loads_in x.asked) w ∙ sym (append-nil (loads_in h.asked))
   loads_asked h after [] (d ∷ ds) w = absurd w
   loads_asked h after (p ∷ ps) [] w = absurd w
   loads_asked h after (p ∷ ps) (Dropped ∷ ds) w =
-      loads_asked w.0 after ps ds w.2 ∙ ap (λ (x : Standing). loads_in x.asked ++ loaded_by (judgings ds)) w.1.same
+      loads_asked w.0 after ps ds w.2 ∙ ap (λ (x : Standing). loads_in x.asked ++ publishes_of_commands (judgings ds)) w.1.same
   loads_asked h after (p ∷ ps) (Answered reply ∷ ds) w =
-      loads_asked w.0 after ps ds w.2 ∙ ap (λ (x : Standing). loads_in x.asked ++ loaded_by (judgings ds)) w.1.same
+      loads_asked w.0 after ps ds w.2 ∙ ap (λ (x : Standing). loads_in x.asked ++ publishes_of_commands (judgings ds)) w.1.same
   loads_asked h after (p ∷ ps) (Judged j ∷ ds) w =
-      let rest = loaded_by (judgings ds) in
+      let rest = publishes_of_commands (judgings ds) in
       let one = end_loads j (stand w.1.between h.asked w.1.reached) w.0 w.1.ended in
       loads_asked w.0 after ps ds w.2
       ∙ (ap (λ (l : List Publish). l ++ rest) one

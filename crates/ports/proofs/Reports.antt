@@ -21,9 +21,9 @@ added_more reports r =
     ap (λ n. record { discarded = n; lost = cut (cut (sum_by (λ (x : Report). x.lost) reports) + r.lost) }) (counts (λ x. x.discarded) reports r)
     ∙ ap (λ n. record { discarded = cut (sum_by (λ (x : Report). x.discarded) (reports ++ r ∷ [])); lost = n }) (counts (λ x. x.lost) reports r)
 
-sums : (told : List (Option Report)) (old new : Option Report) (sum : Report) → IfSome old (IsTotalOf told) → IsSumOf old new sum → IsTotalOf (told ++ new ∷ []) sum
-sums told old new sum was is =
-    let before : IsTotalOf told is.first = subst (λ o. IfSome o (IsTotalOf told)) is.a_is was in
+sums : (reported : List (Option Report)) (old new : Option Report) (sum : Report) → IfSome old (IsTotalOf reported) → IsSumOf old new sum → IsTotalOf (reported ++ new ∷ []) sum
+sums reported old new sum was is =
+    let before : IsTotalOf reported is.first = subst (λ o. IfSome o (IsTotalOf reported)) is.a_is was in
     record {
       reports = before.reports ++ is.second ∷ [];
       all = ap (λ l. l ++ new ∷ []) before.all ∙ ap (λ o. map Some before.reports ++ o ∷ []) is.b_is ∙ sym (map_push Some before.reports is.second);
@@ -31,22 +31,22 @@ sums told old new sum was is =
     }
 
 -- One more report.
-pub one_more : (told : List (Option Report)) (report old new : Option Report) → IfSome old (IsTotalOf told) → IfSome new (IsSumOf old report) → IfSome new (IsTotalOf (told ++ report ∷ []))
-one_more told report old None was is = is
-one_more told report old (Some sum) was is = sums told old report sum was is
+pub one_more : (reported : List (Option Report)) (report old new : Option Report) → IfSome old (IsTotalOf reported) → IfSome new (IsSumOf old report) → IfSome new (IsTotalOf (reported ++ report ∷ []))
+one_more reported report old None was is = is
+one_more reported report old (Some sum) was is = sums reported old report sum was is
 
-missing_before : (told more : List (Option Report)) → IsOneMissing told → IsOneMissing (told ++ more)
+missing_before : (reported more : List (Option Report)) → IsOneMissing reported → IsOneMissing (reported ++ more)
 missing_before [] more is = absurd is
-missing_before (None ∷ told) more is = tt
-missing_before (Some report ∷ told) more is = missing_before told more is
+missing_before (None ∷ reported) more is = tt
+missing_before (Some report ∷ reported) more is = missing_before reported more is
 
-missing_at_end : (told : List (Option Report)) → IsOneMissing (told ++ None ∷ [])
+missing_at_end : (reported : List (Option Report)) → IsOneMissing (reported ++ None ∷ [])
 missing_at_end [] = tt
-missing_at_end (None ∷ told) = tt
-missing_at_end (Some report ∷ told) = missing_at_end told
+missing_at_end (None ∷ reported) = tt
+missing_at_end (Some report ∷ reported) = missing_at_end reported
 
 -- One more report, if the sum is missing.
-pub one_missing : (told : List (Option Report)) (report old new : Option Report) → IfNone old (IsOneMissing told) → IfNone new ((old ≡ None) ⊎ (report ≡ None)) → IfNone new (IsOneMissing (told ++ report ∷ []))
-one_missing told report old (Some sum) was is = tt
-one_missing told report old None was (inl none) = missing_before told (report ∷ []) (subst (λ o. IfNone o (IsOneMissing told)) none was)
-one_missing told report old None was (inr none) = subst (λ o. IsOneMissing (told ++ o ∷ [])) (sym none) (missing_at_end told)
+pub one_missing : (reported : List (Option Report)) (report old new : Option Report) → IfNone old (IsOneMissing reported) → IfNone new ((old ≡ None) ⊎ (report ≡ None)) → IfNone new (IsOneMissing (reported ++ report ∷ []))
+one_missing reported report old (Some sum) was is = tt
+one_missing reported report old None was (inl none) = missing_before reported (report ∷ []) (subst (λ o. IfNone o (IsOneMissing reported)) none was)
+one_missing reported report old None was (inr none) = subst (λ o. IsOneMissing (reported ++ o ∷ [])) (sym none) (missing_at_end reported)

@@ -21,17 +21,17 @@ use Rattle.ports.specs.declared.starts.Ended.{Ended}
 use Rattle.ports.specs.declared.worker.Worker.{Worker}
 use Rattle.ports.specs.declared.worker.Report.{Report}
 use Rattle.ports.specs.Sinks.{SentReply}
-use Rattle.ports.specs.Serves.{IsWorkerOf, AreLast, AreServed, HasReturned, HaveComeBack, IsBack, IsOneMissing, IsShort, IsTold, IsTotalOf, HaveServed, ShareOneHistory}
+use Rattle.ports.specs.Serves.{IsWorkerOf, AreLast, AreServed, HasReturned, HaveComeBack, IsBack, IsOneMissing, IsShort, IsWorkerInformed, IsTotalOf, HaveServed, ShareOneHistory}
 
 -- A pass that is the port's is so later.
 same_port : (port : Port) (old new : ServePass) → IsServePassOf port old → IsServePassAfter old new → IsServePassOf port new
 same_port port old new of after = ((after.0.0 ∙ of.0.0, after.0.2 ∙ of.0.1), after.1)
 
 -- the place of a report that is missing
-missing_at : (told : List (Option Report)) → IsOneMissing told → (k : ℕ) × (k < length told) × ((other : Option Report) → slice_index_or told k other ≡ None)
+missing_at : (reported : List (Option Report)) → IsOneMissing reported → (k : ℕ) × (k < length reported) × ((other : Option Report) → slice_index_or reported k other ≡ None)
 missing_at [] missing = absurd missing
-missing_at (None ∷ told) missing = (0, omega arith, λ other. refl)
-missing_at (Some report ∷ told) missing = let (k, low, none) = missing_at told missing in (suc k, omega (arith, low), none)
+missing_at (None ∷ reported) missing = (0, omega arith, λ other. refl)
+missing_at (Some report ∷ reported) missing = let (k, low, none) = missing_at reported missing in (suc k, omega (arith, low), none)
 
 module _ {J S : Type 0} (sent : S → List SentReply) (failed : S → ℕ) (banks : ℕ) where
   -- A worker that comes back can serve its port again.
@@ -78,20 +78,20 @@ module _ {J S : Type 0} (sent : S → List SentReply) (failed : S → ℕ) (bank
     -- If each has a report, each served its port.
     pub have_served : AreServed banks (length old) ports old → AreBack → length ended ≡ length old → (total : Report) → IsTotalOf (map (λ (e : Ended J S). e.report) ended) total
         → EntriesAreNoLoads → LoadsAreListed → ShareOneHistory returned → HaveServed sent failed banks ports old returned total
-    have_served were each long total told no_loads listed history =
-        let reports = told.reports in
-        let many : length reports ≡ length old = sym (length-map reports Some) ∙ ap length (sym told.all) ∙ length-map ended (λ (e : Ended J S). e.report) ∙ long in
+    have_served were each long total reported no_loads listed history =
+        let reports = reported.reports in
+        let many : length reports ≡ length old = sym (length-map reports Some) ∙ ap length (sym reported.all) ∙ length-map ended (λ (e : Ended J S). e.report) ∙ long in
         let here : (k : ℕ) (w : Worker J S) (r : Report) → k < length old → HasReturned sent failed (slice_index_or old k w) (slice_index_or returned k w) (slice_index_or reports k r)
         = λ k w r below. let end : Ended J S = record { worker = w; report = Some r } in
         let low : k < length ended = subst (λ n. k < n) (sym long) below in
         let report : (slice_index_or ended k end).report ≡ Some (slice_index_or reports k r)
-        = sym (get_or-map (λ (x : Ended J S). x.report) ended k end (Some r) low) ∙ ap (λ l. slice_index_or l k (Some r)) told.all
+        = sym (get_or-map (λ (x : Ended J S). x.report) ended k end (Some r) low) ∙ ap (λ l. slice_index_or l k (Some r)) reported.all
         ∙ get_or-map Some reports k r (Some r) (subst (λ n. k < n) (sym many) below) in
         subst (λ x. HasReturned sent failed (slice_index_or old k w) x (slice_index_or reports k r)) (sym (get_or-map (λ (x : Ended J S). x.worker) ended k end w low))
         (subst (IsBack sent failed (slice_index_or old k w) (slice_index_or ended k end).worker) report (each k end w low)) in
         record {
           reports = reports;
-          told = many;
+          reported = many;
           len = length-map ended (λ (e : Ended J S). e.worker) ∙ long;
           each = λ k w r below. (here k w r below).worked;
           served = record {
@@ -99,7 +99,7 @@ module _ {J S : Type 0} (sent : S → List SentReply) (failed : S → ℕ) (bank
             each = λ k p w below. still (slice_index_or ports k p) (slice_index_or old k w) (slice_index_or returned k w) (Some (slice_index_or reports k total))
                 (were.each k p w below) (here k w total below);
           };
-          sum = told.added;
+          sum = reported.added;
           history = history;
           entries = λ k w r below.
               let it = (here k w r below).worked in
@@ -120,8 +120,8 @@ module _ {J S : Type 0} (sent : S → List SentReply) (failed : S → ℕ) (bank
     -- If a report is missing, its worker came back as it went in.
     pub one_is_same : AreBack → length ended ≡ length old → IsOneMissing (map (λ (e : Ended J S). e.report) ended) → IsShort old (returned ++ rest)
     one_is_same each long missing =
-        let (k, told, none) = missing_at (map (λ (e : Ended J S). e.report) ended) missing in
-        let low : k < length ended = subst (λ n. k < n) (length-map ended (λ (e : Ended J S). e.report)) told in
+        let (k, reported, none) = missing_at (map (λ (e : Ended J S). e.report) ended) missing in
+        let low : k < length ended = subst (λ n. k < n) (length-map ended (λ (e : Ended J S). e.report)) reported in
         inr (inr (
           k,
           subst (λ n. k < n) long low,
@@ -168,7 +168,7 @@ same_worker {J} {S} w pass same = ap (λ (x : PortPass). record w { pass = x }) 
 
 -- Of the first threads, what their workers know of the history, and did there, is known.
 abbrev pub AreKnownTo : {J S : Type 0} → ℕ → List (Ended J S) → List Link → Type 0
-AreKnownTo {J} {S} n ended known = (k : ℕ) (e : Ended J S) → k < n → IsTold known (slice_index_or ended k e).worker
+AreKnownTo {J} {S} n ended known = (k : ℕ) (e : Ended J S) → k < n → IsWorkerInformed known (slice_index_or ended k e).worker
 
 other_default : {A : Type 0} (xs : List A) (k : ℕ) (d e : A) → k < length xs → slice_index_or xs k d ≡ slice_index_or xs k e
 other_default [] k d e below = absurd (omega (arith, below))
@@ -176,7 +176,7 @@ other_default (x ∷ xs) zero d e below = refl
 other_default (x ∷ xs) (suc k) d e below = other_default xs k d e (omega (arith, below))
 
 -- One more of them.
-pub known_more : {J S : Type 0} → ActsGrow → (n : ℕ) (ended : List (Ended J S)) (old new : List Link) (d : Ended J S) → n < length ended → IsPrefix old new → IsTold new (slice_index_or ended n d).worker
+pub known_more : {J S : Type 0} → ActsGrow → (n : ℕ) (ended : List (Ended J S)) (old new : List Link) (d : Ended J S) → n < length ended → IsPrefix old new → IsWorkerInformed new (slice_index_or ended n d).worker
     → AreKnownTo n ended old → AreKnownTo (n + 1) ended new
 known_more {J} {S} grow n ended old new d below longer here known = λ k e low.
     ⊎_elim
@@ -189,7 +189,7 @@ known_more {J} {S} grow n ended old new d below longer here known = λ k e low.
     (λ high.
     let same : k ≡ n = omega (arith, low, high) in
     let at : slice_index_or ended k e ≡ slice_index_or ended n d = ap (λ (i : ℕ). slice_index_or ended i e) same ∙ other_default ended n e d below in
-    subst (λ (x : Ended J S). IsTold new x.worker) (sym at) here)
+    subst (λ (x : Ended J S). IsWorkerInformed new x.worker) (sym at) here)
     (cases_lt k n)
 
 -- If no thread was started, all came back as they went in.

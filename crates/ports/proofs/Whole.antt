@@ -20,10 +20,10 @@ use Rattle.annals.specs.declared.deed.Link.{Link}
 use Rattle.annals.specs.Chains.{chain_of, link}
 use Rattle.annals.specs.Banks.{entries_by, entries_in, entries_of, with_entry}
 use Rattle.annals.specs.Publishes.{publishes_of}
-use Rattle.ports.specs.Due.{Judging, Deed, Standing, stand, Worked, IsBanked, IsJudged, judgings}
+use Rattle.ports.specs.Due.{Judging, Deed, Standing, stand, Worked, IsBanked, IsJudgedInRun, judgings}
 use Rattle.ports.specs.Due.Deed.{Dropped, Answered, Judged}
-use Rattle.ports.specs.Laws.{AreEntriesOf, EntriesFollow, HasEntered, IsByShown, IsEntryOf, WorkersEntriesAreAll, is_bank_of, is_entry_at, number_at}
-use Rattle.ports.proofs.Entries.{IsJudgedBehind, done_behind, entered, entries_follow}
+use Rattle.ports.specs.Laws.{AreEntriesOf, EntriesFollow, HasEntered, IsByShown, IsEntryOf, WorkersEntriesAreAll, is_bank_of, is_entry_at, next_number_at}
+use Rattle.ports.proofs.Entries.{IsJudgedAfter, done_after, entered, entries_follow}
 use Rattle.ports.proofs.Following.{bit, dealt_stays, judged_by, judged_number, judged_shown, one_at, shares_count}
 use Rattle.lemmas.proofs.Prefixes.{prefix_same, prefix_trans, prefix_length}
 
@@ -94,24 +94,24 @@ record HasLeft (port k : ℕ) (j : Judging) (h after : Standing) : Type 0 where
   before : List EntryValue
   entry : EntryValue
   all : entries_by port k after.front ≡ before ++ entry ∷ []
-  count : length before ≡ number_at h.pass k
-  is : IsEntryOf port after.front (number_at h.pass k) j entry
+  count : length before ≡ next_number_at h.pass k
+  is : IsEntryOf port after.front (next_number_at h.pass k) j entry
 
 place_is : (k n : ℕ) (place : Place) → place ≡ Bank n → is_bank_of k place ≡ true → n ≡ k
 place_is k n place at here =
     let same : (n == k) ≡ true = subst (λ (p : Place). is_bank_of k p ≡ true) at here in
     grind (arith, nat_tests, same)
 
-left_at : (port k : ℕ) (known : List Link) (j : Judging) (h after : Standing) → j.judged.port ≡ port → IsJudgedBehind port j h.pass → IsByShown known h.front j → IsBanked j h after → is_entry_at k j ≡ true → HasLeft port k j h after
+left_at : (port k : ℕ) (known : List Link) (j : Judging) (h after : Standing) → j.judged.port ≡ port → IsJudgedAfter port j h.pass → IsByShown known h.front j → IsBanked j h after → is_entry_at k j ≡ true → HasLeft port k j h after
 unfolding entered
 left_at port k known j h after own by moment is here =
     let parts = and_parts j.entered (is_bank_of k j.judged.place) here in
-    let behind = done_behind j h after is parts.0 in
-    let done = behind.done in
+    let following = done_after j h after is parts.0 in
+    let done = following.done in
     let n = is.ended.before.chain.number in
     let same : n ≡ k = place_is k n j.judged.place done.place parts.1 in
     let share = share_of h.pass j.judged.place in
-    let number : share.number ≡ number_at h.pass k = ap (λ (p : Place). (share_of h.pass p).number) done.place ∙ ap (number_at h.pass) same in
+    let number : share.number ≡ next_number_at h.pass k = ap (λ (p : Place). (share_of h.pass p).number) done.place ∙ ap (next_number_at h.pass) same in
     let before = done.last.before in
     let e = entry_of share j.judged is.ended.result.status in
     let place = length (chain_of n before) in
@@ -138,12 +138,12 @@ windowed_none : (k : ℕ) (j : Judging) → j.entered ≡ false → is_entry_at 
 windowed_none k j none here = cc (none, (and_parts j.entered (is_bank_of k j.judged.place) here).0)
 
 -- a judged command that left an entry at the bank
-judged_left : (k : ℕ) (j : Judging) (p : Cargo) (h after : Standing) → IsJudged j p h after → is_entry_at k j ≡ true → HasLeft h.pass.port k j h after
+judged_left : (k : ℕ) (j : Judging) (p : Cargo) (h after : Standing) → IsJudgedInRun j p h after → is_entry_at k j ≡ true → HasLeft h.pass.port k j h after
 judged_left k j p h after is here =
     let port = h.pass.port in
     let own : j.judged.port ≡ port = is.judgement.judged_for.port_of in
     let middle = stand is.between h.asked is.reached in
-    let number : number_at is.between k ≡ number_at h.pass k = ap (λ (x : PassValue). number_at x k) is.judgement.asked in
+    let number : next_number_at is.between k ≡ next_number_at h.pass k = ap (λ (x : PassValue). next_number_at x k) is.judgement.asked in
     elim is.ended [
       | inl banked ↦
           let left = left_at port k h.front j middle after own (λ published begins. judged_by j p h after published is begins) (judged_shown j p h after is) banked here in record {
@@ -180,67 +180,67 @@ more_entries port log k n j js before rest all e here count is whole others =
     (subst (λ (b : Bool). AreEntriesOf port log n (cond b (j ∷ filter (is_entry_at k) js) (filter (is_entry_at k) js)) (e ∷ rest)) (sym here) both)
 
 -- one judged command before the others
-one_before : (k : ℕ) (log : List Link) (j : Judging) (p : Cargo) (h between : Standing) (js : List Judging) → IsJudged j p h between → IsPrefix between.front log → k < length h.pass.shares
-    → AreEntriesOf h.pass.port log (number_at between.pass k) (filter (is_entry_at k) js) (drop (number_at between.pass k) (entries_by h.pass.port k log))
-    → AreEntriesOf h.pass.port log (number_at h.pass k) (filter (is_entry_at k) (j ∷ js)) (drop (number_at h.pass k) (entries_by h.pass.port k log))
+one_before : (k : ℕ) (log : List Link) (j : Judging) (p : Cargo) (h between : Standing) (js : List Judging) → IsJudgedInRun j p h between → IsPrefix between.front log → k < length h.pass.shares
+    → AreEntriesOf h.pass.port log (next_number_at between.pass k) (filter (is_entry_at k) js) (drop (next_number_at between.pass k) (entries_by h.pass.port k log))
+    → AreEntriesOf h.pass.port log (next_number_at h.pass k) (filter (is_entry_at k) (j ∷ js)) (drop (next_number_at h.pass k) (entries_by h.pass.port k log))
 one_before k log j p h between js is front below rest = by (is_entry_at k j) refl where
   n : ℕ
-  n = number_at h.pass k
+  n = next_number_at h.pass k
 
   all : List EntryValue
   all = entries_by h.pass.port k log
 
-  number : number_at between.pass k ≡ n + one_at k j
+  number : next_number_at between.pass k ≡ n + one_at k j
   number = judged_number k j p h between is below
 
   by : (b : Bool) → is_entry_at k j ≡ b → AreEntriesOf h.pass.port log n (filter (is_entry_at k) (j ∷ js)) (drop n all)
   by true here =
       let left = judged_left k j p h between is here in
-      let next : number_at between.pass k ≡ n + 1 = number ∙ ap (λ (b : Bool). n + bit b) here in
+      let next : next_number_at between.pass k ≡ n + 1 = number ∙ ap (λ (b : Bool). n + bit b) here in
       let whole : all ≡ (left.before ++ left.entry ∷ []) ++ entries_by h.pass.port k front.0 =
       ap (entries_by h.pass.port k) (sym front.1) ∙ (by_append h.pass.port k between.front front.0 ∙ ap (λ (es : List EntryValue). es ++ entries_by h.pass.port k front.0) left.all) in
       more_entries h.pass.port log k n j js left.before (entries_by h.pass.port k front.0) all left.entry here left.count
       (entry_in_longer h.pass.port between.front log n j left.entry front left.is) whole
       (subst (λ (i : ℕ). AreEntriesOf h.pass.port log i (filter (is_entry_at k) js) (drop i all)) next rest)
   by false here =
-      let next : number_at between.pass k ≡ n = number ∙ (ap (λ (b : Bool). n + bit b) here ∙ omega arith) in
+      let next : next_number_at between.pass k ≡ n = number ∙ (ap (λ (b : Bool). n + bit b) here ∙ omega arith) in
       subst (λ (b : Bool). AreEntriesOf h.pass.port log n (cond b (j ∷ filter (is_entry_at k) js) (filter (is_entry_at k) js)) (drop n all)) (sym here)
       (subst (λ (i : ℕ). AreEntriesOf h.pass.port log i (filter (is_entry_at k) js) (drop i all)) next rest)
 
 all_entries : (k : ℕ) (log : List Link) (h after : Standing) (ps : List Cargo) (ds : List Deed) → Worked h ps ds after → IsPrefix after.front log → k < length h.pass.shares
-    → IsPrefix (numbers_of h.pass.port (entries_of k log)) (range_with_len 0 (number_at after.pass k))
-    → AreEntriesOf h.pass.port log (number_at h.pass k) (filter (is_entry_at k) (judgings ds)) (drop (number_at h.pass k) (entries_by h.pass.port k log))
+    → IsPrefix (numbers_of h.pass.port (entries_of k log)) (range_with_len 0 (next_number_at after.pass k))
+    → AreEntriesOf h.pass.port log (next_number_at h.pass k) (filter (is_entry_at k) (judgings ds)) (drop (next_number_at h.pass k) (entries_by h.pass.port k log))
 all_entries k log h after [] [] w begins below counted =
-    let n = number_at h.pass k in
-    let few : length (numbers_of h.pass.port (entries_of k log)) ≤ length (range_with_len 0 (number_at after.pass k)) = prefix_length _ _ counted in
+    let n = next_number_at h.pass k in
+    let few : length (numbers_of h.pass.port (entries_of k log)) ≤ length (range_with_len 0 (next_number_at after.pass k)) = prefix_length _ _ counted in
     let size = length-map (entries_by h.pass.port k log) (λ (x : EntryValue). x.number) in
-    let range = range_length 0 (number_at after.pass k) in
-    let same : number_at after.pass k ≡ n = ap (λ (x : Standing). number_at x.pass k) w in
+    let range = range_length 0 (next_number_at after.pass k) in
+    let same : next_number_at after.pass k ≡ n = ap (λ (x : Standing). next_number_at x.pass k) w in
     subst (AreEntriesOf h.pass.port log n []) (sym (drop_past n (entries_by h.pass.port k log) (omega (arith, few, size, range, same)))) tt
 all_entries k log h after [] (d ∷ ds) w begins below counted = absurd w
 all_entries k log h after (p ∷ ps) [] w begins below counted = absurd w
 all_entries k log h after (p ∷ ps) (Dropped ∷ ds) w begins below counted =
     let same = w.1.same in
-    subst (λ (x : Standing). AreEntriesOf x.pass.port log (number_at x.pass k) (filter (is_entry_at k) (judgings ds)) (drop (number_at x.pass k) (entries_by x.pass.port k log))) same
+    subst (λ (x : Standing). AreEntriesOf x.pass.port log (next_number_at x.pass k) (filter (is_entry_at k) (judgings ds)) (drop (next_number_at x.pass k) (entries_by x.pass.port k log))) same
     (all_entries k log w.0 after ps ds w.2 begins (subst (λ (x : Standing). k < length x.pass.shares) (sym same) below)
-    (subst (λ (x : Standing). IsPrefix (numbers_of x.pass.port (entries_of k log)) (range_with_len 0 (number_at after.pass k))) (sym same) counted))
+    (subst (λ (x : Standing). IsPrefix (numbers_of x.pass.port (entries_of k log)) (range_with_len 0 (next_number_at after.pass k))) (sym same) counted))
 all_entries k log h after (p ∷ ps) (Answered reply ∷ ds) w begins below counted =
     let same = w.1.same in
-    subst (λ (x : Standing). AreEntriesOf x.pass.port log (number_at x.pass k) (filter (is_entry_at k) (judgings ds)) (drop (number_at x.pass k) (entries_by x.pass.port k log))) same
+    subst (λ (x : Standing). AreEntriesOf x.pass.port log (next_number_at x.pass k) (filter (is_entry_at k) (judgings ds)) (drop (next_number_at x.pass k) (entries_by x.pass.port k log))) same
     (all_entries k log w.0 after ps ds w.2 begins (subst (λ (x : Standing). k < length x.pass.shares) (sym same) below)
-    (subst (λ (x : Standing). IsPrefix (numbers_of x.pass.port (entries_of k log)) (range_with_len 0 (number_at after.pass k))) (sym same) counted))
+    (subst (λ (x : Standing). IsPrefix (numbers_of x.pass.port (entries_of k log)) (range_with_len 0 (next_number_at after.pass k))) (sym same) counted))
 all_entries k log h after (p ∷ ps) (Judged j ∷ ds) w begins below counted =
     let stays = dealt_stays (Judged j) p h w.0 w.1 in
     let within : k < length w.0.pass.shares = subst (λ (i : ℕ). k < i) (sym stays.count) below in
     let rest = all_entries k log w.0 after ps ds w.2 begins within
-    (subst (λ (i : ℕ). IsPrefix (numbers_of i (entries_of k log)) (range_with_len 0 (number_at after.pass k))) (sym stays.port) counted) in
+    (subst (λ (i : ℕ). IsPrefix (numbers_of i (entries_of k log)) (range_with_len 0 (next_number_at after.pass k))) (sym stays.port) counted) in
     let front : IsPrefix w.0.front log = prefix_trans w.0.front after.front log (follow_prefix w.0.pass.port w.0.front (judgings ds) after.front (entries_follow w.0 after ps ds w.2)) begins in
     one_before k log j p h w.0 (judgings ds) w.1 front below
-    (subst (λ (i : ℕ). AreEntriesOf i log (number_at w.0.pass k) (filter (is_entry_at k) (judgings ds)) (drop (number_at w.0.pass k) (entries_by i k log))) stays.port rest)
+    (subst (λ (i : ℕ). AreEntriesOf i log (next_number_at w.0.pass k) (filter (is_entry_at k) (judgings ds)) (drop (next_number_at w.0.pass k) (entries_by i k log))) stays.port rest)
 
 pub entries_are_all : WorkersEntriesAreAll
 entries_are_all = λ h after ps ds log w begins counted k below.
     let stays = shares_count h after ps ds w in
     let within : k < length after.pass.shares = subst (λ (i : ℕ). k < i) (sym stays.count) below in
     all_entries k log h after ps ds w begins below
-    (subst (λ (i : ℕ). IsPrefix (numbers_of i (entries_of k log)) (range_with_len 0 (number_at after.pass k))) stays.port (counted k within))
+    (subst (λ (i : ℕ). IsPrefix (numbers_of i (entries_of k log)) (range_with_len 0 (next_number_at after.pass k))) stays.port (counted k within))

@@ -23,7 +23,7 @@ use Rattle.annals.specs.declared.deed.Link.{Link}
 use Rattle.annals.specs.Banks.{KeptValue, takes}
 use Rattle.annals.specs.Chains.{Due, done_for}
 use Rattle.annals.specs.Publishes.{publishes_of}
-use Rattle.annals.specs.Shown.{IsTakenAt}
+use Rattle.annals.specs.Shown.{IsTakenAtMoment}
 use Rattle.target.specs.Finished.{AsksForEntry, IsFinishedAt}
 use Rattle.target.specs.Loads.{AsksForLoad}
 use Rattle.target.specs.Passes.{PortPass}
@@ -114,10 +114,10 @@ pub record IsUnjudged (reply : List ℕ) (p : Cargo) (h after : Standing) : Type
 pub record HasFinished (known reached : List Link) (holder after : PassValue) (asked asks : List Due) (j : JudgedValue)
     (reply : List ℕ) : Type 0 where
   pub before : KeptValue
-  pub behind : KeptValue
+  pub following : KeptValue
   pub result : Applied
   pub bank : IsBank before.bank
-  pub finished : IsFinishedAt before behind known reached holder after j result reply
+  pub finished : IsFinishedAt before following known reached holder after j result reply
   pub asks_for : AsksForEntry before.chain.number holder j result asked asks
 
 -- The command's place is a bank, and it ended at some bank. If it was applied and there was room, it left an entry
@@ -158,7 +158,7 @@ pub record HasLoadEnd (known reached : List Link) (holder after : PassValue) (as
 -- A judged command ended in the boot window when some list had been published, which began with all that the port knew.
 -- Its port asked for what it published, and for nothing else. Of a control write the port knows where in the history
 -- that was, and it forgets nothing.
-pub record IsWindowed (judging : Judging) (h after : Standing) : Type 0 where
+pub record IsWindowEnd (judging : Judging) (h after : Standing) : Type 0 where
   pub old : List Publish
   pub new : List Publish
   pub begins : IsPrefix h.pass.programs old
@@ -172,21 +172,21 @@ pub record IsWindowed (judging : Judging) (h after : Standing) : Type 0 where
 
 -- The command of the packet was judged in one run, which left the port so. The programs are those that readers saw at
 -- one moment of the history, after what the port knew. The command ended at some bank or in the boot window.
-pub record IsJudged (judging : Judging) (p : Cargo) (h after : Standing) : Type 0 where
+pub record IsJudgedInRun (judging : Judging) (p : Cargo) (h after : Standing) : Type 0 where
   pub between : PassValue
   pub reached : List Link
-  pub moment : IsTakenAt h.front reached between.programs
+  pub moment : IsTakenAtMoment h.front reached between.programs
   pub judgement : IsJudgement h.pass between p judging.judged
   pub program : judging.program ≡ judgement.program
   pub calls : judging.calls ≡ judgement.calls
   pub ended : IsBanked judging (stand between h.asked reached) after
-      ⊎ IsWindowed judging (stand between h.asked reached) after
+      ⊎ IsWindowEnd judging (stand between h.asked reached) after
 
 -- what became of one packet and of its port: the packet was dropped, answered without a run, or judged
 abbrev pub IsDealt : Deed → Cargo → (h after : Standing) → Type 0
 IsDealt Dropped p h after = IsDropped p h after
 IsDealt (Answered reply) p h after = IsUnjudged reply p h after
-IsDealt (Judged judging) p h after = IsJudged judging p h after
+IsDealt (Judged judging) p h after = IsJudgedInRun judging p h after
 
 -- one after the other, that became of the packets and of the port
 abbrev pub Worked : Standing → List Cargo → List Deed → Standing → Type 0

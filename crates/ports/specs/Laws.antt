@@ -11,12 +11,12 @@ use Rattle.node_programs.specs.declared.publishes.Publish.{Publish}
 use Rattle.node_programs.specs.Published.{judging_program}
 use Rattle.node_parts.specs.Slots.{slot_of}
 use Rattle.node_parts.specs.Passes.{PassValue}
-use Rattle.node_parts.specs.Steps.{IsVerdict}
+use Rattle.node_parts.specs.Steps.{IsPacketVerdict}
 use Rattle.node_parts.specs.Applied.{share_of}
 use Rattle.bank.specs.declared.bank.Applied.{Applied}
 use Rattle.bank.specs.Records.{EntryValue, ShareValue, numbered_entry}
 use Rattle.annals.specs.declared.deed.Link.{Link}
-use Rattle.annals.specs.Banks.{IsDone, entries_by}
+use Rattle.annals.specs.Banks.{IsDoneAtBank, entries_by}
 use Rattle.annals.specs.Chains.{done_for}
 use Rattle.annals.specs.Publishes.{loads_by, loads_in, publishes_of}
 use Rattle.annals.specs.Shown.{shown_of}
@@ -30,7 +30,7 @@ pub record IsByPublished (published : List Publish) (port : ℕ) (judging : Judg
   pub begins : IsPrefix seen published
   pub shown : judging_program seen (slot_of (command_kind (command_of judging.judged.packet)) judging.judged.place)
       ≡ Some (judging.program, judging.judged.generation)
-  pub verdict : IsVerdict judging.program port judging.calls judging.judged.packet judging.judged.verdict
+  pub verdict : IsPacketVerdict judging.program port judging.calls judging.judged.packet judging.judged.verdict
 
 -- each verdict is that of a run of a program that was published: one that the port has seen in the end
 abbrev pub WorkersProgramsWerePublished : Type 0
@@ -39,14 +39,14 @@ WorkersProgramsWerePublished =
     → All (IsByPublished after.pass.programs h.pass.port) (judgings deeds)
 
 -- the calls of the runs, in order
-abbrev pub calls_of : List Deed → List Call
-calls_of deeds = flat_map (λ (judging : Judging). judging.calls) (judgings deeds)
+abbrev pub calls_of_runs : List Deed → List Call
+calls_of_runs deeds = flat_map (λ (judging : Judging). judging.calls) (judgings deeds)
 
 -- a port asked the cells what the runs of its judged commands asked, each run once and in order, and nothing else
 abbrev pub WorkersAskOnce : Type 0
 WorkersAskOnce =
     (h after : Standing) (packets : List Cargo) (deeds : List Deed) → Worked h packets deeds after
-    → after.pass.seat.asked ≡ h.pass.seat.asked ++ calls_of deeds
+    → after.pass.seat.asked ≡ h.pass.seat.asked ++ calls_of_runs deeds
 
 -- the place is the bank of that number
 abbrev pub is_bank_of : ℕ → Place → Bool
@@ -60,16 +60,16 @@ abbrev pub is_entry_at : ℕ → Judging → Bool
 is_entry_at k judging = judging.entered && is_bank_of k judging.judged.place
 
 -- how many commands left an entry at the bank of that number
-abbrev pub entries_at : ℕ → List Deed → ℕ
-entries_at k deeds = length (filter (is_entry_at k) (judgings deeds))
+abbrev pub entry_count_at : ℕ → List Deed → ℕ
+entry_count_at k deeds = length (filter (is_entry_at k) (judgings deeds))
 
 -- the number of the port's next command at the bank of that number
-abbrev pub number_at : PassValue → ℕ → ℕ
-number_at h k = (share_of h (Bank k)).number
+abbrev pub next_number_at : PassValue → ℕ → ℕ
+next_number_at h k = (share_of h (Bank k)).number
 
 -- each share counts the entries that its port left at its bank, and what a port is stays
 pub record SharesCount (h after : PassValue) (deeds : List Deed) : Type 0 where
-  pub numbers : (k : ℕ) → k < length h.shares → number_at after k ≡ number_at h k + entries_at k deeds
+  pub numbers : (k : ℕ) → k < length h.shares → next_number_at after k ≡ next_number_at h k + entry_count_at k deeds
   pub count : length after.shares ≡ length h.shares
   pub port : after.port ≡ h.port
   pub windows : after.windows ≡ h.windows
@@ -98,7 +98,7 @@ pub record HasEntered (port : ℕ) (known reached : List Link) (judging : Judgin
   pub bank : ℕ
   pub share : ShareValue
   pub result : Applied
-  pub done : IsDone bank known reached share judging.judged result judging.reply
+  pub done : IsDoneAtBank bank known reached share judging.judged result judging.reply
   pub by : IsByPublished (publishes_of done.last.before) port judging
   pub moment : IsByShown known done.last.before judging
 
@@ -133,8 +133,8 @@ AreEntriesOf port log number (judging ∷ judgings) (entry ∷ entries) =
 abbrev pub AreAllEntries : List Link → PassValue → List Deed → Type 0
 AreAllEntries log h deeds =
     (k : ℕ) → k < length h.shares
-    → AreEntriesOf h.port log (number_at h k) (filter (is_entry_at k) (judgings deeds))
-    (drop (number_at h k) (entries_by h.port k log))
+    → AreEntriesOf h.port log (next_number_at h k) (filter (is_entry_at k) (judgings deeds))
+    (drop (next_number_at h k) (entries_by h.port k log))
 
 -- Let a history go on from what a worker knows in the end, with only those entries of its port that the shares count.
 -- Then the entries of the port in it are those that `AreAllEntries` gives.
@@ -157,14 +157,14 @@ with_loaded None publishes = publishes
 with_loaded (Some publish) publishes = publish ∷ publishes
 
 -- what the commands published, in order
-abbrev pub loaded_by : List Judging → List Publish
-loaded_by [] = []
-loaded_by (judging ∷ judgings) = with_loaded judging.loaded (loaded_by judgings)
+abbrev pub publishes_of_commands : List Judging → List Publish
+publishes_of_commands [] = []
+publishes_of_commands (judging ∷ judgings) = with_loaded judging.loaded (publishes_of_commands judgings)
 
 -- The publishes of the port in that history are those that it had asked for at first, and then those of its commands
 -- that published. The latter are in order and each once.
 abbrev pub AreAllPublishes : List Link → Standing → List Deed → Type 0
-AreAllPublishes log h deeds = loads_by h.pass.port log ≡ loads_in h.asked ++ loaded_by (judgings deeds)
+AreAllPublishes log h deeds = loads_by h.pass.port log ≡ loads_in h.asked ++ publishes_of_commands (judgings deeds)
 
 -- If a history has of a port what it asked for, and nothing else, its publishes of the port are those that
 -- `AreAllPublishes` gives.

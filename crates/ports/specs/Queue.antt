@@ -15,15 +15,15 @@ log puts takes put taken = record { puts = puts; takes = takes; put = put; taken
 
 -- A pass that may put is the writer's and has what was put. A pass that may take is the reader's and has what was
 -- taken.
-abbrev pub Fits : (writer reader : ℕ) → (put taken : List Item) → ℕ → Log → Type 0
-Fits writer reader put taken pass v =
+abbrev pub FitsPass : (writer reader : ℕ) → (put taken : List Item) → ℕ → Log → Type 0
+FitsPass writer reader put taken pass v =
     (v.puts ≡ true → (pass ≡ writer) × (v.put ≡ put)) × (v.takes ≡ true → (pass ≡ reader) × (v.taken ≡ taken))
 
 -- In order: what was put is what was taken, and then what the queue holds. At most one pass puts, and at most one
 -- takes.
 abbrev pub InOrder : List Item → List Log → Type 0
 InOrder items views = (writer : ℕ) × (reader : ℕ) × (put : List Item) × (taken : List Item) × (put ≡ taken ++ items)
-    × ((pass : ℕ) (v : Log) → get_elem? views pass ≡ some v → Fits writer reader put taken pass v)
+    × ((pass : ℕ) (v : Log) → get_elem? views pass ≡ some v → FitsPass writer reader put taken pass v)
 
 -- the second list ends with the first
 abbrev pub IsEnd : List Item → List Item → Type 0

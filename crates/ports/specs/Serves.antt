@@ -61,13 +61,13 @@ pub record IsSumOf (a b : Option Report) (sum : Report) : Type 0 where
 -- one of the reports is missing
 abbrev pub IsOneMissing : List (Option Report) → Type 0
 IsOneMissing [] = ⊥
-IsOneMissing (None ∷ told) = Unit {0}
-IsOneMissing (Some report ∷ told) = IsOneMissing told
+IsOneMissing (None ∷ reported) = Unit {0}
+IsOneMissing (Some report ∷ reported) = IsOneMissing reported
 
 -- each report is there, and that is their sum
-pub record IsTotalOf (told : List (Option Report)) (total : Report) : Type 0 where
+pub record IsTotalOf (reported : List (Option Report)) (total : Report) : Type 0 where
   pub reports : List Report
-  pub all : told ≡ map Some reports
+  pub all : reported ≡ map Some reports
   pub added : total ≡ total_of reports
 
 -- the worker came back: as it went in, or after its port's end mark
@@ -98,8 +98,8 @@ pub record HaveComeBack {J S : Type 0} (sent : S → List SentReply) (failed : S
   pub few : length old ≤ length new + 1
 
 -- all that the worker's port knows is in that history, and so is all that it asked for, done
-abbrev pub IsTold : {J S : Type 0} → List Link → Worker J S → Type 0
-IsTold log worker =
+abbrev pub IsWorkerInformed : {J S : Type 0} → List Link → Worker J S → Type 0
+IsWorkerInformed log worker =
     IsPrefix worker.front log × IsPrefix worker.pass.asked (done_for worker.pass.pass.port log)
 
 -- What the workers know of the history of their node begins one list. It has no entries of their ports except those
@@ -120,7 +120,7 @@ pub record ShareOneHistory {J S : Type 0} (workers : List (Worker J S)) : Type 0
 pub record HaveServed {J S : Type 0} (sent : S → List SentReply) (failed : S → ℕ) (banks : ℕ) (ports : List Port)
     (old new : List (Worker J S)) (total : Report) : Type 0 where
   pub reports : List Report
-  pub told : length reports ≡ length old
+  pub reported : length reports ≡ length old
   pub len : length new ≡ length old
   pub each : (k : ℕ) (worker : Worker J S) (report : Report) → k < length old
       → IsWorked sent failed (slice_index_or old k worker) (slice_index_or new k worker)

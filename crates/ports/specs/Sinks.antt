@@ -23,11 +23,11 @@ abbrev pub cut : ℕ → ℕ
 cut n = min n 18446744073709551615
 
 -- the reply was taken, of that port
-pub record IsSent (sent sent' : List SentReply) (failed failed' : ℕ) (port : ℕ) (reply : List ℕ) : Type 0 where
+pub record IsReplySent (sent sent' : List SentReply) (failed failed' : ℕ) (port : ℕ) (reply : List ℕ) : Type 0 where
   pub taken : sent' ≡ sent ++ (port, reply) ∷ []
   pub failures : failed' ≡ failed
 
 -- the reply was not taken, and counts
-pub record IsUnsent (sent sent' : List SentReply) (failed failed' : ℕ) : Type 0 where
+pub record IsReplyUnsent (sent sent' : List SentReply) (failed failed' : ℕ) : Type 0 where
   pub same : sent' ≡ sent
   pub failures : failed' ≡ cut (failed + 1)

@@ -6,7 +6,7 @@ ghost use Rattle.std.specs.PromisedHandle.{KeepsEach};
 ghost use mathlib.Core.List.{IsPrefix};
 ghost use Rattle.annals.specs.Publishes.{publishes_of};
 ghost use Rattle.annals.specs.Shown.{AreListed, shown_in};
-ghost use Rattle.ports.specs.Serves.{AreServed, HasRoomFor, HaveComeBack, HaveServed, IsOneMissing, IsShort, IsSumOf, IsTold, IsTotalOf, ShareOneHistory};
+ghost use Rattle.ports.specs.Serves.{AreServed, HasRoomFor, HaveComeBack, HaveServed, IsOneMissing, IsShort, IsSumOf, IsWorkerInformed, IsTotalOf, ShareOneHistory};
 
 use crate::gate::Gate;
 use crate::port::Port;
@@ -86,7 +86,7 @@ fn all_known<R: Wait, J: Family, Q: Wait + Drop, S: Sink + Drop>(
     ended: &[Ended<J, S>],
     mut known: Front<J>,
 ) -> Front<J>
-    ensures told { All (λ e. IsTold result e.worker) ended.now }
+    ensures reported { All (λ e. IsWorkerInformed result e.worker) ended.now }
     ensures shown { length (publishes_of result) ≤ shown_in result }
     ensures listed { AreListed result }
 {

@@ -2,7 +2,7 @@
 
 ghost use Rattle.std.specs.Prelude.{◌≡◌, ◌++◌, ◌∷◌, [], ℕ, List, MatchResult, OnErr, OnOk, map};
 ghost use Rattle.std.specs.Vec.{vec_items};
-ghost use Rattle.ports.specs.Sinks.{IsSent, IsUnsent, replies_in};
+ghost use Rattle.ports.specs.Sinks.{IsReplySent, IsReplyUnsent, replies_in};
 
 use std::alloc::{AllocError, Global};
 use std::marker::Model;
@@ -14,7 +14,7 @@ pub struct SinkFault;
 /// What takes the replies of one port. A sink that grows keeps the allocator that it was made with.
 pub trait Sink {
     ghost use Rattle.std.specs.Prelude.{List, ℕ};
-    ghost use Rattle.ports.specs.Sinks.{IsSent, IsUnsent};
+    ghost use Rattle.ports.specs.Sinks.{IsReplySent, IsReplyUnsent};
 
     /// The replies taken, in order, each after the number of its port.
     ghost sent: { Self → List (ℕ × List ℕ) };
@@ -29,8 +29,8 @@ pub trait Sink {
     /// The sink did not take the reply, and counts it among the failures.
     fn send(&mut self, port: u8, reply: &[u8]) -> Result<(), SinkFault>
         ensures sent { MatchResult result
-            (λ _. IsSent (sent self.old) (sent self.new) (failed self.old) (failed self.new) port reply.now)
-            (λ _. IsUnsent (sent self.old) (sent self.new) (failed self.old) (failed self.new)) };
+            (λ _. IsReplySent (sent self.old) (sent self.new) (failed self.old) (failed self.new) port reply.now)
+            (λ _. IsReplyUnsent (sent self.old) (sent self.new) (failed self.old) (failed self.new)) };
 
     /// How many replies the sink did not take. The count stays at 2^64 - 1.
     fn failures(&self) -> u64

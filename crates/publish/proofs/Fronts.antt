@@ -4,7 +4,7 @@ use mathlib.Core.List.{IsPrefix}
 use Rattle.node_programs.specs.declared.publishes.Publish.{Publish}
 use Rattle.annals.specs.declared.deed.Link.{Link}
 use Rattle.annals.specs.Publishes.{PublishesGrow, publishes_of}
-use Rattle.annals.specs.Shown.{IsTakenAt}
+use Rattle.annals.specs.Shown.{IsTakenAtMoment}
 use Rattle.publish.specs.Reached.{Known, known}
 pub use Rattle.lemmas.proofs.Prefixes.{prefix_same}
 use Rattle.lemmas.proofs.Prefixes.{prefix_trans, prefix_whole, prefix_length}
@@ -17,9 +17,9 @@ prefix_get (y ∷ xs) (z ∷ ys) zero x p h = cc (p.1, h)
 prefix_get (y ∷ xs) (z ∷ ys) (suc k) x p h = prefix_get xs ys k x (p.0, cc (p.1)) h
 
 -- a reader that learnt of programs which what it knew begins
-pub learnt : (old new : Known) (told programs : List Publish) → told ≡ programs → IsPrefix old.programs programs → (length old.programs ≤ length told → new ≡ known told old.inside) → new.programs ≡ programs
-learnt old new told programs is begins longer =
-    let less : length old.programs ≤ length told = subst (λ (l : List Publish). length old.programs ≤ length l) (sym is) (prefix_length old.programs programs begins) in
+pub learnt : (old new : Known) (reported programs : List Publish) → reported ≡ programs → IsPrefix old.programs programs → (length old.programs ≤ length reported → new ≡ known reported old.inside) → new.programs ≡ programs
+learnt old new reported programs is begins longer =
+    let less : length old.programs ≤ length reported = subst (λ (l : List Publish). length old.programs ≤ length l) (sym is) (prefix_length old.programs programs begins) in
     ap (λ (r : Known). r.programs) (longer less) ∙ is
 
 -- two beginnings of one history: the one with fewer publishes has those that begin the other's
@@ -32,7 +32,7 @@ swapped (inl a) = inr a
 swapped (inr b) = inl b
 
 -- a moment after what somebody saw is one after what this one had seen before
-pub taken_since : (known first reached : List Link) (programs same : List Publish) → IsPrefix known first → programs ≡ same → IsTakenAt first reached programs → IsTakenAt known reached same
+pub taken_since : (known first reached : List Link) (programs same : List Publish) → IsPrefix known first → programs ≡ same → IsTakenAtMoment first reached programs → IsTakenAtMoment known reached same
 taken_since known first reached programs same begins is at = record {
   at = at.at;
   after = prefix_trans known first at.at begins at.after;

@@ -8,8 +8,8 @@ use Rattle.node_programs.specs.declared.publishes.Publish.{Publish}
 use Rattle.node_programs.specs.Histories.{entry}
 
 -- the program is for one of the four slots, and was accepted for maps of those sizes
-abbrev pub IsFirst : Maps → ℕ × AcceptedValue → Type 0
-IsFirst sizes first = (first.0 ≤ 3) × (first.1.sizes ≡ sizes)
+abbrev pub IsFirstProgram : Maps → ℕ × AcceptedValue → Type 0
+IsFirstProgram sizes first = (first.0 ≤ 3) × (first.1.sizes ≡ sizes)
 
 -- its publish
 abbrev pub first_entry : ℕ × AcceptedValue → Publish

@@ -1,5 +1,5 @@
 pub mod Reached
 pub mod Tables
-pub mod Sights
+pub mod PublishedViews
 pub mod Lines
 pub mod Firsts

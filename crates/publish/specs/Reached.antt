@@ -22,5 +22,5 @@ abbrev pub known : List Publish → Option (List Publish) → Known
 known programs inside = record { programs = programs; inside = inside }
 
 -- the reader is in the table whose programs it knows
-abbrev pub IsInside : Known → Type 0
-IsInside reader = reader.inside ≡ Some reader.programs
+abbrev pub IsReaderInside : Known → Type 0
+IsReaderInside reader = reader.inside ≡ Some reader.programs

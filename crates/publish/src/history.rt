@@ -10,7 +10,7 @@ ghost use Rattle.annals.specs.Shown.{AreListed, shown_in};
 ghost use Rattle.node_programs.specs.Histories.{entry, longer_history};
 ghost use Rattle.publish.specs.Reached.{reached};
 
-use annals::{BANK_CHAINS, Beginning, Chain, Family, Line, ShownCount, publishes_grow};
+use annals::{BANK_CHAINS, Beginning, Chain, Family, Line, PublishedCount, publishes_grow};
 use bver::Accepted;
 use std::alloc::AllocError;
 use std::marker::Model;
@@ -21,11 +21,11 @@ const PORT_LINES: u8 = 32;
 
 /// An empty history, which belongs to no node yet, with all its chains. Contracts see it as its book.
 #[derive(Drop)]
-pub struct Opened {
-    chains: annals::Opened,
+pub struct NodeHistory {
+    chains: annals::EmptyHistory,
 }
 
-impl Model for Opened {
+impl Model for NodeHistory {
     ghost use Rattle.std.specs.Prelude.{◌≡◌};
     ghost use Rattle.logbook.specs.Pages.{Book};
 
@@ -36,11 +36,11 @@ impl Model for Opened {
     ghost invariant = { λ o. o.chains.1 ≡ 42 };
 }
 
-impl Opened {
+impl NodeHistory {
     /// Opens a history.
-    pub fn new() -> Opened {
-        Opened {
-            chains: annals::Opened::new(),
+    pub fn new() -> NodeHistory {
+        NodeHistory {
+            chains: annals::EmptyHistory::new(),
         }
     }
 
@@ -50,7 +50,7 @@ impl Opened {
     /// # Errors
     ///
     /// `AllocError` if the chain has begun already (no test met that).
-    pub fn into_publishes<J: Family>(self) -> Result<(Chain<J>, Line<J>, ShownCount<J>), AllocError>
+    pub fn into_publishes<J: Family>(self) -> Result<(Chain<J>, Line<J>, PublishedCount<J>), AllocError>
         requires { self ≡ J.book }
         ensures number { IfOk result (λ made. made.0.number ≡ publishes_chain) }
         ensures none { IfOk result (λ made. publishes_of made.0.log ≡ []) }
@@ -65,7 +65,7 @@ impl Opened {
             return Err(AllocError);
         };
         chains.skip(PORT_LINES);
-        Ok((chain, line, chains.into_shown_count()))
+        Ok((chain, line, chains.into_published_count()))
     }
 
     /// What a port knows at first of the history: nothing.
@@ -77,11 +77,11 @@ impl Opened {
     }
 
     /// The history, as its chains are taken.
-    pub fn into_chains(self) -> annals::Opened
+    pub fn into_chains(self) -> annals::EmptyHistory
         ensures book { result.0 ≡ self }
         ensures all { result.1 ≡ 42 }
     {
-        let Opened { chains } = self;
+        let NodeHistory { chains } = self;
         chains
     }
 }
@@ -164,24 +164,24 @@ impl<J: Family> History<J> {
     }
 
     /// Somebody learns all of it, and that readers see it.
-    pub(crate) fn tell(&self, shown_count: &ShownCount<J>, known: &mut annals::Front<J>)
+    pub(crate) fn tell(&self, published_count: &PublishedCount<J>, known: &mut annals::Front<J>)
         ensures old { IsPrefix known.old known.new }
-        ensures told { IsPrefix self.now (publishes_of known.new) }
+        ensures reported { IsPrefix self.now (publishes_of known.new) }
         ensures shown { length self.now ≤ shown_in known.new }
         ensures listed { AreListed known.new }
     {
         publishes_grow();
         let own = self.chain.beginning().front();
-        let least = shown_count.count(known);
-        let _taken = shown_count.settle(known, least, &own, self.count);
+        let least = published_count.count(known);
+        let _taken = published_count.settle(known, least, &own, self.count);
     }
 
     /// Readers see its last program too, if they saw all before it.
-    pub(crate) fn show(&self, shown_count: &ShownCount<J>)
+    pub(crate) fn show(&self, published_count: &PublishedCount<J>)
         requires { 0 < length self.now }
     {
         let mut front = self.chain.beginning().front();
-        shown_count.raise(&mut front, self.count);
+        published_count.raise(&mut front, self.count);
     }
 }
 
@@ -253,7 +253,7 @@ impl Front {
     pub(crate) fn tell<J: Family>(&self, known: &mut annals::Front<J>)
         requires { self.now.family ≡ J.book }
         ensures old { IsPrefix known.old known.new }
-        ensures told { IsPrefix self.now.programs (publishes_of known.new) }
+        ensures reported { IsPrefix self.now.programs (publishes_of known.new) }
     {
         publishes_grow();
         let own = self.beginning.front();

@@ -17,14 +17,14 @@ mod publisher;
 mod reader;
 mod rule;
 mod table;
-mod told;
+mod reported;
 
 pub use annals::{Family, Front, Line};
-pub use history::Opened;
+pub use history::NodeHistory;
 pub use laws::readers_know_a_beginning;
-pub use loader::Loader;
+pub use loader::LoadRights;
 pub use node_programs::{PublishFault, Staging};
 pub use programs::Programs;
 pub use publisher::Publisher;
 pub use reader::{Reader, Taken};
-pub use told::Told;
+pub use reported::Told;

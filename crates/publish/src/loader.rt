@@ -5,7 +5,7 @@ use annals::{Family, Line};
 
 /// What a port has of the programs, and its line of the node's history, in which it asks for what it publishes.
 #[derive(Drop)]
-pub struct Loader<J: Family> {
+pub struct LoadRights<J: Family> {
     /// What the port has of the table of programs.
     pub reader: Reader<J>,
     /// The port's line.

@@ -4,16 +4,16 @@ ghost use Rattle.std.specs.Prelude.{◌≡◌, ◌<◌, ◌≤◌, ◌+◌, ◌�
 ghost use Rattle.annals.specs.Publishes.{line_loading, publishes_chain, publishes_of};
 ghost use Rattle.node_programs.specs.Histories.{entry};
 ghost use Rattle.node_programs.specs.Published.{sizes_of};
-ghost use Rattle.publish.specs.Firsts.{IsFirst, first_entry, line_with_firsts, programs_with};
+ghost use Rattle.publish.specs.Firsts.{IsFirstProgram, first_entry, line_with_firsts, programs_with};
 ghost use Rattle.publish.specs.Reached.{known};
 ghost use Rattle.publish.specs.Lines.{opening_line};
 
-use crate::history::{Front, History, Opened};
+use crate::history::{Front, History, NodeHistory};
 use crate::publisher::Publisher;
 use crate::reader::Reader;
-use crate::rule::{InFamily, Sight};
+use crate::rule::{InFamily, PublishedView};
 use crate::table::Table;
-use annals::{Chain, Family, Line, ShownCount};
+use annals::{Chain, Family, Line, PublishedCount};
 use bver::{Accepted, MapSizes};
 use left_right::writer::Writer;
 use std::alloc::{AllocError, Global};
@@ -33,7 +33,7 @@ impl Programs {
     pub fn new<J: Family, R: Wait + Drop>(
         alloc: Global,
         rt: R,
-        opened: Opened,
+        opened: NodeHistory,
         factory: Accepted,
         readers: u8,
     ) -> Result<(Publisher<J, R>, Vec<Reader<J>>, Line<J>), AllocError>
@@ -43,12 +43,12 @@ impl Programs {
             (λ made. made.1.items ≡ replicate readers (known (entry 0 factory ∷ []) None)) }
         ensures line { IfOk result (λ made. made.2 ≡ opening_line factory) }
     {
-        let (chain, mut line, shown_count) = opened.into_publishes()?;
+        let (chain, mut line, published_count) = opened.into_publishes()?;
         let (publisher, readers) = Programs::with_chain(
             alloc,
             rt,
             chain,
-            shown_count,
+            published_count,
             &mut line,
             factory,
             &[],
@@ -71,7 +71,7 @@ impl Programs {
         alloc: Global,
         rt: R,
         chain: Chain<J>,
-        shown_count: ShownCount<J>,
+        published_count: PublishedCount<J>,
         line: &mut Line<J>,
         factory: Accepted,
         firsts: &[(u8, Accepted)],
@@ -79,7 +79,7 @@ impl Programs {
     ) -> Result<(Publisher<J, R>, Vec<Reader<J>>), AllocError>
         requires number { chain.number ≡ publishes_chain }
         requires none { publishes_of chain.log ≡ [] }
-        requires firsts { All (IsFirst factory.sizes) firsts.now }
+        requires firsts { All (IsFirstProgram factory.sizes) firsts.now }
         requires few { length firsts.now ≤ 4294967295 }
         ensures publisher { IfOk result (λ made. made.0 ≡ programs_with factory firsts.now) }
         ensures readers { IfOk result (λ made.
@@ -89,13 +89,13 @@ impl Programs {
         ensures owner { IfOk result (λ _. line.new.port ≡ line.old.port) }
     {
         let sizes = factory.sizes();
-        let shown_count = Arc::new(alloc, shown_count)?;
+        let published_count = Arc::new(alloc, published_count)?;
         let first = (0u8, Arc::new(alloc, factory)?);
         let history = History::begin(chain, line, &first);
         let front = history.front();
         let table = Table::first(first.1, front.again())?;
         let spare = table.copy()?;
-        let writer: Writer<Table, Table, Sight, InFamily<J>> = Writer::new(
+        let writer: Writer<Table, Table, PublishedView, InFamily<J>> = Writer::new(
             alloc,
             table,
             spare,
@@ -105,16 +105,16 @@ impl Programs {
             alloc,
             writer,
             history,
-            shown_count,
+            published_count,
             rt,
         };
         publisher.make_room()?;
-        publisher.history.show(&publisher.shown_count);
+        publisher.history.show(&publisher.published_count);
         install_all(&mut publisher, line, firsts)?;
         let entrances = entrances(
             alloc,
             &publisher.writer,
-            &publisher.shown_count,
+            &publisher.published_count,
             publisher.front(),
             sizes,
             readers,
@@ -131,7 +131,7 @@ fn install_all<J: Family, R: Wait + Drop>(
     firsts: &[(u8, Accepted)],
 ) -> Result<(), AllocError>
     requires some { 0 < length publisher.old }
-    requires firsts { All (IsFirst (sizes_of publisher.old)) firsts.now }
+    requires firsts { All (IsFirstProgram (sizes_of publisher.old)) firsts.now }
     requires few { length publisher.old + length firsts.now ≤ 4294967296 }
     ensures published { OnOk result (publisher.new ≡ publisher.old ++ map first_entry firsts.now) }
     ensures asked { OnOk result (line.new ≡ line_with_firsts line.old firsts.now) }
@@ -141,7 +141,7 @@ fn install_all<J: Family, R: Wait + Drop>(
         let first = &firsts[index];
         let program = first.1.copy()?;
         // It can only be refused memory: the slot is one of four, and a generation is left.
-        let Ok(_told) = publisher.install(line, first.0, program) else {
+        let Ok(_reported) = publisher.install(line, first.0, program) else {
             return Err(AllocError);
         };
     }
@@ -151,8 +151,8 @@ fn install_all<J: Family, R: Wait + Drop>(
 /// That many readers of a table.
 fn entrances<J: Family>(
     alloc: Global,
-    writer: &Writer<Table, Table, Sight, InFamily<J>>,
-    shown_count: &Arc<ShownCount<J>>,
+    writer: &Writer<Table, Table, PublishedView, InFamily<J>>,
+    published_count: &Arc<PublishedCount<J>>,
     front: &Front,
     sizes: MapSizes,
     readers: u8,
@@ -165,7 +165,7 @@ fn entrances<J: Family>(
     let mut entrances = Vec::with_capacity(alloc, usize::from(readers))?;
     for _port in 0..readers {
         let entrance = writer.factory().reader()?;
-        entrances.push(Reader::new(entrance, shown_count.clone()?, front.again(), sizes))?;
+        entrances.push(Reader::new(entrance, published_count.clone()?, front.again(), sizes))?;
     }
     Ok(entrances)
 }

@@ -9,11 +9,11 @@ ghost use Rattle.node_programs.specs.Published.{sizes_of};
 ghost use Rattle.publish.specs.Reached.{reached};
 
 use crate::history::{Front, History};
-use crate::loader::Loader;
-use crate::rule::{InFamily, Shows, Sight};
+use crate::loader::LoadRights;
+use crate::rule::{InFamily, Shows, PublishedView};
 use crate::table::Table;
-use crate::told::Told;
-use annals::{Family, Line, ShownCount};
+use crate::reported::Told;
+use annals::{Family, Line, PublishedCount};
 use bver::{Accepted, MapSizes};
 use core::mem::replace_with;
 use left_right::writer::Writer;
@@ -26,9 +26,9 @@ use std::sync::{Arc, Wait};
 /// with the factory program. Its end waits for readers.
 pub struct Publisher<J: Family, R: Wait + Drop> {
     pub(crate) alloc: Global,
-    pub(crate) writer: Writer<Table, Table, Sight, InFamily<J>>,
+    pub(crate) writer: Writer<Table, Table, PublishedView, InFamily<J>>,
     pub(crate) history: History<J>,
-    pub(crate) shown_count: Arc<ShownCount<J>>,
+    pub(crate) published_count: Arc<PublishedCount<J>>,
     pub(crate) rt: R,
 }
 
@@ -40,7 +40,7 @@ impl<J: Family, R: Wait + Drop> Model for Publisher<J, R> {
 
     ghost view = { λ p. p.writer.desk.shown.value.programs };
 
-    ghost invariant = { λ p. (p.history ≡ p.writer.desk.shown.value.programs) × (p.writer.desk.shown.value.family ≡ J.book) × (drop p.writer.behind p.writer.log.items ≡ []) };
+    ghost invariant = { λ p. (p.history ≡ p.writer.desk.shown.value.programs) × (p.writer.desk.shown.value.family ≡ J.book) × (drop p.writer.following p.writer.log.items ≡ []) };
 }
 
 impl<J: Family, R: Wait + Drop> Drop for Publisher<J, R> {
@@ -49,7 +49,7 @@ impl<J: Family, R: Wait + Drop> Drop for Publisher<J, R> {
             alloc: _,
             writer,
             history: _history,
-            shown_count: _shown_count,
+            published_count: _published_count,
             rt,
         } = self;
         drop(writer.take(&rt));
@@ -83,7 +83,7 @@ impl<J: Family, R: Wait + Drop> Publisher<J, R> {
     ) -> Result<Told<J>, PublishFault>
         requires { program.sizes ≡ sizes_of self.old }
         ensures published { OnOk result (self.new ≡ longer_history self.old slot program) }
-        ensures told { IfOk result (λ told. told ≡ self.new) }
+        ensures reported { IfOk result (λ reported. reported ≡ self.new) }
         ensures same { OnErr result (self.new ≡ self.old) }
         ensures asked { OnOk result (line.new ≡ line_loading line.old (entry slot program)) }
         ensures unasked { OnErr result (line.new ≡ line.old) }
@@ -103,13 +103,13 @@ impl<J: Family, R: Wait + Drop> Publisher<J, R> {
         let publish = (slot, Arc::new(self.alloc, program)?);
         // From here on nothing asks for memory, and nothing is refused.
         self.history.add(line, &publish);
-        let told = Told::new(self.history.front());
+        let reported = Told::new(self.history.front());
         table.put(slot, publish.1, self.history.front());
         replace_with(&mut self.writer, (table, &self.rt), |writer, (table, rt)| {
             shown(rt, writer, table)
         });
-        self.history.show(&self.shown_count);
-        Ok(told)
+        self.history.show(&self.published_count);
+        Ok(reported)
     }
 
     /// How far the history goes.
@@ -136,11 +136,11 @@ impl<J: Family, R: Wait + Drop> Publisher<J, R> {
     /// Somebody learns enough of the node's history that it has all that was published, and that readers see all of it.
     pub fn tell(&self, known: &mut annals::Front<J>)
         ensures old { IsPrefix known.old known.new }
-        ensures told { IsPrefix self.now (publishes_of known.new) }
+        ensures reported { IsPrefix self.now (publishes_of known.new) }
         ensures shown { length self.now ≤ shown_in known.new }
         ensures listed { AreListed known.new }
     {
-        self.history.tell(&self.shown_count, known);
+        self.history.tell(&self.published_count, known);
     }
 
     /// The publishes that anybody has seen of the node's history begin what was published.
@@ -162,7 +162,7 @@ impl<J: Family, R: Wait + Drop> Publisher<J, R> {
 }
 
 /// What is published grows by [`Publisher::install`], which may wait, as the port's line asks, and the port's reader learns of it.
-impl<J: Family, R: Wait + Drop> ProgramStore<Loader<J>> for Publisher<J, R> {
+impl<J: Family, R: Wait + Drop> ProgramStore<LoadRights<J>> for Publisher<J, R> {
     ghost use Rattle.std.specs.Prelude.{◌≡◌};
     ghost use Rattle.annals.specs.Publishes.{line_loading};
 
@@ -180,30 +180,30 @@ impl<J: Family, R: Wait + Drop> ProgramStore<Loader<J>> for Publisher<J, R> {
     fn publish(
         &mut self,
         _alloc: Global,
-        loader: &mut Loader<J>,
+        loader: &mut LoadRights<J>,
         slot: u8,
         program: Accepted,
     ) -> Result<u32, PublishFault> {
-        let told = self.install(&mut loader.line, slot, program)?;
+        let reported = self.install(&mut loader.line, slot, program)?;
         self.begins_with(loader.reader.front());
-        loader.reader.learn(&told);
-        Ok(told.generation())
+        loader.reader.learn(&reported);
+        Ok(reported.generation())
     }
 }
 
 /// The writer after readers see what is pending.
 fn flushed<J: Family, R: Wait>(
     rt: &R,
-    writer: Writer<Table, Table, Sight, InFamily<J>>,
-) -> (Writer<Table, Table, Sight, InFamily<J>>, ())
+    writer: Writer<Table, Table, PublishedView, InFamily<J>>,
+) -> (Writer<Table, Table, PublishedView, InFamily<J>>, ())
     requires family { (fold (λ _ t. t) writer.desk.shown.value
-        (drop writer.behind writer.log.items)).family
+        (drop writer.following writer.log.items)).family
         ≡ J.book }
     requires longer { IsPrefix writer.desk.shown.value.programs
-        (fold (λ _ t. t) writer.desk.shown.value (drop writer.behind writer.log.items)).programs }
+        (fold (λ _ t. t) writer.desk.shown.value (drop writer.following writer.log.items)).programs }
     ensures shown { result.0.desk.shown.value
-        ≡ fold (λ _ t. t) writer.desk.shown.value (drop writer.behind writer.log.items) }
-    ensures pending { drop result.0.behind result.0.log.items ≡ [] }
+        ≡ fold (λ _ t. t) writer.desk.shown.value (drop writer.following writer.log.items) }
+    ensures pending { drop result.0.following result.0.log.items ≡ [] }
 {
     let mut writer = writer;
     for _ in rt.forever() {
@@ -219,14 +219,14 @@ fn flushed<J: Family, R: Wait>(
 /// The writer after readers see the table.
 fn shown<J: Family, R: Wait>(
     rt: &R,
-    writer: Writer<Table, Table, Sight, InFamily<J>>,
+    writer: Writer<Table, Table, PublishedView, InFamily<J>>,
     table: Table,
-) -> (Writer<Table, Table, Sight, InFamily<J>>, ())
-    requires pending { drop writer.behind writer.log.items ≡ [] }
+) -> (Writer<Table, Table, PublishedView, InFamily<J>>, ())
+    requires pending { drop writer.following writer.log.items ≡ [] }
     requires family { table.family ≡ J.book }
     requires longer { IsPrefix writer.desk.shown.value.programs table.programs }
     ensures shown { result.0.desk.shown.value ≡ table }
-    ensures pending { drop result.0.behind result.0.log.items ≡ [] }
+    ensures pending { drop result.0.following result.0.log.items ≡ [] }
 {
     let mut writer = writer;
     let mut table = table;

@@ -5,19 +5,19 @@ ghost use Rattle.std.specs.Borrow.{sem, RestsIfNone};
 ghost use mathlib.Core.List.{IsPrefix};
 ghost use Rattle.bver.specs.Justified.{IsJustified};
 ghost use Rattle.annals.specs.Publishes.{publishes_of};
-ghost use Rattle.annals.specs.Shown.{IsTakenAt};
+ghost use Rattle.annals.specs.Shown.{IsTakenAtMoment};
 ghost use Rattle.node_programs.specs.Published.{judging_program, program_at, generation_at, sizes_of};
-ghost use Rattle.publish.specs.Reached.{IsInside, known, reached};
+ghost use Rattle.publish.specs.Reached.{IsReaderInside, known, reached};
 ghost use Rattle.publish.specs.contracts.reader.Reader.{the_row};
 
 use crate::history::Front;
-use crate::rule::{InFamily, Looks, Sight};
+use crate::rule::{InFamily, Looks, PublishedView};
 use crate::table::Table;
-use crate::told::Told;
-use annals::{Family, ShownCount};
+use crate::reported::Told;
+use annals::{Family, PublishedCount};
 use bver::{Accepted, MapSizes};
 use left_right::reader::{Reader as Entrance, Reading};
-use node_programs::Shown;
+use node_programs::ProgramVersion;
 use std::marker::Model;
 use std::mem;
 use std::sync::Arc;
@@ -26,9 +26,9 @@ use std::sync::Arc;
 /// table or inside, and always can enter again. Contracts see it as the programs that it knows, and those of the table
 /// in which it is.
 pub struct Reader<J: Family> {
-    outside: Option<Entrance<Table, Sight, InFamily<J>>>,
-    inside: Option<Reading<Table, Sight, InFamily<J>>>,
-    shown_count: Arc<ShownCount<J>>,
+    outside: Option<Entrance<Table, PublishedView, InFamily<J>>>,
+    inside: Option<Reading<Table, PublishedView, InFamily<J>>>,
+    published_count: Arc<PublishedCount<J>>,
     known: Front,
     sizes: MapSizes,
 }
@@ -51,7 +51,7 @@ impl<J: Family> Drop for Reader<J> {
         let Self {
             outside: _outside,
             inside,
-            shown_count: _shown_count,
+            published_count: _published_count,
             known: _known,
             sizes: _,
         } = self;
@@ -71,8 +71,8 @@ pub struct Taken<'a, J: Family> {
 impl<J: Family> Reader<J> {
     /// A reader that knows that beginning.
     pub(crate) fn new(
-        entrance: Entrance<Table, Sight, InFamily<J>>,
-        shown_count: Arc<ShownCount<J>>,
+        entrance: Entrance<Table, PublishedView, InFamily<J>>,
+        published_count: Arc<PublishedCount<J>>,
         front: Front,
         sizes: MapSizes,
     ) -> Reader<J>
@@ -84,7 +84,7 @@ impl<J: Family> Reader<J> {
         Reader {
             outside: Some(entrance),
             inside: None,
-            shown_count,
+            published_count,
             known: front,
             sizes,
         }
@@ -100,7 +100,7 @@ impl<J: Family> Reader<J> {
     /// Whoever knows a beginning of the node's history then knows the publishes as well that the reader knows.
     pub fn tell(&self, known: &mut annals::Front<J>)
         ensures old { IsPrefix known.old known.new }
-        ensures told { IsPrefix self.now.programs (publishes_of known.new) }
+        ensures reported { IsPrefix self.now.programs (publishes_of known.new) }
     {
         self.known.tell(known);
     }
@@ -114,16 +114,16 @@ impl<J: Family> Reader<J> {
     }
 
     /// Takes in what a publisher gave, if that is no less than is known.
-    pub fn learn(&mut self, told: &Told<J>)
-        ensures longer { length self.old.programs ≤ length told.now
-            → self.new ≡ known told.now self.old.inside }
-        ensures shorter { length told.now < length self.old.programs → self.new ≡ self.old }
+    pub fn learn(&mut self, reported: &Told<J>)
+        ensures longer { length self.old.programs ≤ length reported.now
+            → self.new ≡ known reported.now self.old.inside }
+        ensures shorter { length reported.now < length self.old.programs → self.new ≡ self.old }
         ensures old { IsPrefix self.old.programs self.new.programs }
-        ensures told { IsPrefix told.now self.new.programs }
+        ensures reported { IsPrefix reported.now self.new.programs }
         ensures inside { self.new.inside ≡ self.old.inside }
         ensures sizes { sizes_of self.new.programs ≡ sizes_of self.old.programs }
     {
-        self.known.advance(told.front());
+        self.known.advance(reported.front());
     }
 
     /// Takes the program of a slot, which is below 4. At one moment of the node's history readers saw exactly the
@@ -139,13 +139,13 @@ impl<J: Family> Reader<J> {
         requires slot { slot < 4 }
         ensures known { IsPrefix front.old front.new }
         ensures moment { IfSome result
-            (λ t. IsTakenAt front.old front.new t.reader.now.programs) }
+            (λ t. IsTakenAtMoment front.old front.new t.reader.now.programs) }
         ensures* unchanged { sem 𝓛
             (RestsIfNone (the_row J.row J.Family) self.entry (λ t. t.reader.ghost_name) result
             (λ n. n ≡ self.old)) }
         ensures same_reference { IfSome result (λ t. t.reader.ghost_name ≡ self.entry.ghost_name) }
         ensures seen { IfSome result (λ t. IsPrefix self.old.programs t.reader.now.programs) }
-        ensures inside { IfSome result (λ t. IsInside t.reader.now) }
+        ensures inside { IfSome result (λ t. IsReaderInside t.reader.now) }
         ensures slot { IfSome result (λ t. t.slot ≡ slot) }
         ensures sizes { IfSome result
             (λ t. sizes_of t.reader.now.programs ≡ sizes_of self.old.programs) }
@@ -160,9 +160,9 @@ impl<J: Family> Reader<J> {
     /// Enters the table, if it shows no less than is known and was seen, and knows that.
     fn enter(&mut self, front: &mut annals::Front<J>) -> bool
         ensures front { IsPrefix front.old front.new }
-        ensures moment { result ≡ true → IsTakenAt front.old front.new self.new.programs }
+        ensures moment { result ≡ true → IsTakenAtMoment front.old front.new self.new.programs }
         ensures entered { result ≡ true → IsPrefix self.old.programs self.new.programs
-            × IsInside self.new }
+            × IsReaderInside self.new }
         ensures out { result ≡ false → self.new ≡ self.old }
         ensures sizes { sizes_of self.new.programs ≡ sizes_of self.old.programs }
     {
@@ -172,7 +172,7 @@ impl<J: Family> Reader<J> {
         let Some(entrance) = self.outside.take() else {
             return false;
         };
-        let least = self.shown_count.count(front);
+        let least = self.published_count.count(front);
         let reading = match entrance.enter_as::<Looks<J>>() {
             Ok(reading) => reading,
             Err(entrance) => {
@@ -182,7 +182,7 @@ impl<J: Family> Reader<J> {
         };
         let count = reading.get().front().len();
         let table = reading.get().front().known();
-        let is_taken = self.shown_count.settle(front, least, &table, count);
+        let is_taken = self.published_count.settle(front, least, &table, count);
         if !is_taken || count < self.known.len() {
             self.outside = Some(reading.leave());
             return false;
@@ -195,9 +195,9 @@ impl<J: Family> Reader<J> {
     }
 
     /// The program of a slot of the table.
-    fn shown(&self, slot: u8) -> &Shown
+    fn shown(&self, slot: u8) -> &ProgramVersion
         requires slot { slot < 4 }
-        requires inside { IsInside self.now }
+        requires inside { IsReaderInside self.now }
         ensures value { judging_program self.now.programs slot ≡ Some result.now }
         ensures sizes { result.now.0.sizes ≡ sizes_of self.now.programs }
     {
@@ -220,7 +220,7 @@ impl<J: Family> Reader<J> {
 impl<J: Family> Taken<'_, J> {
     /// The program. The condition is one that [`Reader::take`] ensures of what it gives.
     pub fn accepted(&self) -> &Accepted
-        requires { IsInside self.now.reader.now }
+        requires { IsReaderInside self.now.reader.now }
         ensures program { program_at self.now.reader.now.programs self.now.slot ≡ Some result.now }
         ensures sizes { result.now.sizes ≡ sizes_of self.now.reader.now.programs }
         ensures justified { IsJustified result.now.program result.now.sizes }
@@ -230,7 +230,7 @@ impl<J: Family> Taken<'_, J> {
 
     /// The generation of the program. The condition is one that [`Reader::take`] ensures of what it gives.
     pub fn generation(&self) -> u32
-        requires { IsInside self.now.reader.now }
+        requires { IsReaderInside self.now.reader.now }
         ensures { generation_at self.now.reader.now.programs self.now.slot ≡ Some result }
     {
         self.reader.shown(self.slot).generation()

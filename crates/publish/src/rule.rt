@@ -8,16 +8,16 @@ use std::collections::LinkedList;
 use std::marker::PhantomData;
 
 /// What a reader saw of the history. No value of it is made.
-pub(crate) type Sight = LinkedList<Publish>;
+pub(crate) type PublishedView = LinkedList<Publish>;
 
 /// The rule: the table is of one family, and each reader saw a beginning of its programs.
 pub(crate) struct InFamily<J: Family> {
     of: PhantomData<J>,
 }
 
-impl<J: Family> Protocol<Table, Sight> for InFamily<J> {
+impl<J: Family> Protocol<Table, PublishedView> for InFamily<J> {
     ghost use Rattle.std.specs.Prelude.{[]};
-    ghost use Rattle.publish.specs.Sights.{IsInFamily};
+    ghost use Rattle.publish.specs.PublishedViews.{IsInFamily};
 
     ghost holds = { IsInFamily J.book };
 
@@ -29,8 +29,8 @@ pub(crate) struct Looks<J: Family> {
     of: PhantomData<J>,
 }
 
-impl<J: Family> Outcome<Table, Sight> for Looks<J> {
-    ghost use Rattle.publish.specs.Sights.{Sees};
+impl<J: Family> Outcome<Table, PublishedView> for Looks<J> {
+    ghost use Rattle.publish.specs.PublishedViews.{Sees};
 
     ghost then = { Sees J.book };
 }
@@ -38,7 +38,7 @@ impl<J: Family> Outcome<Table, Sight> for Looks<J> {
 /// A step of the publisher, which sees nothing.
 pub(crate) struct Shows;
 
-impl Outcome<Table, Sight> for Shows {
+impl Outcome<Table, PublishedView> for Shows {
     ghost use Rattle.std.specs.Prelude.{◌≡◌};
 
     ghost then = { λ before old new after. after ≡ before };

@@ -8,13 +8,13 @@ ghost use Rattle.node_programs.specs.Published.{judging_program, sizes_of};
 use crate::history::Front;
 use bver::Accepted;
 use left_right::Absorb;
-use node_programs::{Shown, published_programs};
+use node_programs::{ProgramVersion, published_programs};
 use std::alloc::AllocError;
 use std::marker::Model;
 use std::sync::Arc;
 
 /// The same programs once more.
-fn copied(slots: &[Shown; 4]) -> Result<[Shown; 4], AllocError>
+fn copied(slots: &[ProgramVersion; 4]) -> Result<[ProgramVersion; 4], AllocError>
     ensures { IfOk result (λ s. s ≡ slots.now) }
 {
     let [reads, writes, rmws, window] = slots;
@@ -29,19 +29,19 @@ fn copied(slots: &[Shown; 4]) -> Result<[Shown; 4], AllocError>
 /// The programs that judge, and the history that says so.
 #[derive(Drop)]
 pub(crate) struct Table {
-    slots: [Shown; 4],
+    slots: [ProgramVersion; 4],
     front: Front,
 }
 
 impl Model for Table {
     ghost use Rattle.publish.specs.Reached.{Reached};
-    ghost use Rattle.publish.specs.Tables.{IsTable};
+    ghost use Rattle.publish.specs.Tables.{IsPublishedTable};
 
     ghost Value = { Reached };
 
     ghost view = { λ t. t.front };
 
-    ghost invariant = { λ t. IsTable t.slots t.front.programs };
+    ghost invariant = { λ t. IsPublishedTable t.slots t.front.programs };
 }
 
 impl Table {
@@ -50,7 +50,7 @@ impl Table {
         requires { front.programs ≡ entry 0 (arc_value factory) ∷ [] }
         ensures { IfOk result (λ t. t ≡ front) }
     {
-        let window = Shown::new(factory, 0);
+        let window = ProgramVersion::new(factory, 0);
         let slots = [
             window.another()?,
             window.another()?,
@@ -71,7 +71,7 @@ impl Table {
     {
         published_programs();
         let generation = self.front.len() as u32;
-        self.slots[usize::from(slot)] = Shown::new(program, generation);
+        self.slots[usize::from(slot)] = ProgramVersion::new(program, generation);
         self.front = front;
     }
 
@@ -94,7 +94,7 @@ impl Table {
     }
 
     /// The program of a slot.
-    pub(crate) fn shown(&self, slot: u8) -> &Shown
+    pub(crate) fn shown(&self, slot: u8) -> &ProgramVersion
         requires { slot < 4 }
         ensures value { judging_program self.now.programs slot ≡ Some result.now }
         ensures sizes { result.now.0.sizes ≡ sizes_of self.now.programs }

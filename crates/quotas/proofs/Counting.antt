@@ -7,29 +7,29 @@ use Rattle.brun.specs.declared.turns.Turn.{Turn}
 use Rattle.brun.specs.declared.turns.Turn.TheVariants as turns
 use Rattle.machine.specs.declared.calls.Call.{Call}
 use Rattle.machine.specs.declared.helpers.Helper.TheVariants as helpers
-use Rattle.machine.specs.Memory.{Header, IsHeader}
+use Rattle.machine.specs.Memory.{Header, IsProgramHeader}
 use Rattle.machine.specs.Runs.{AreAnswered, IsSafe, Path, entry, moves, answered, call}
 use Rattle.machine.specs.State.{State}
 use Rattle.machine.specs.declared.calls.Question.{Question}
 use Rattle.machine.specs.Step.{question, Ask, step}
 use Rattle.policy.specs.Compiled.{HasMeaning}
 use Rattle.policy_table.specs.Matching.{matching_quota}
-use Rattle.policy_table.specs.Meaning.{decision, draw, told_by}
+use Rattle.policy_table.specs.Meaning.{decision, draw, answers_in_turn}
 use Rattle.policy_table.specs.declared.rules.Quota.{Quota}
 use Rattle.policy_table.specs.declared.rules.Rule.{Rule}
 use Rattle.sched.specs.declared.event.Event.{Event}
 use Rattle.sched.specs.declared.event.Event.TheVariants.{Take, Count, Ticket, Peak, Effect, Publish}
 use Rattle.sched.specs.declared.event.Outcome.{Outcome}
 use Rattle.sched.specs.declared.event.Outcome.TheVariants.{Refused, Discarded, Answered, Taken, Told, Done}
-use Rattle.sched.specs.Headline.{Begins, EveryScheduleJudgesOnce, IsJudgedOnce, whole, longer}
-use Rattle.sched.specs.History.{History, Start, Then, Open, after_told, opened, opened_by, port_of, taken_by, with_answer}
-use Rattle.sched.specs.Lawful.{IsLawful, IsOutcomeAtButTold, IsPublishOutcome, IsPublishedBy, IsSomeTold, effect_at_turn, effect_outcome, take_outcome}
-use Rattle.sched.specs.Looking.{Node, cell_asked, draws, header_in, is_cell_of_node, program_of, turn_at, turn_by, turn_of}
-use Rattle.sched.specs.Turns.{AreWords, HasAsked, HasEnded, TurnsArePaths, answers_of}
-use Rattle.quotas.specs.Matches.{IsMatched, MatchesAreCounted, from_take}
+use Rattle.sched.specs.Headline.{BeginsHistory, EveryScheduleJudgesOnce, IsTakenOnceDoneOnce, whole, longer}
+use Rattle.sched.specs.History.{History, Start, Then, Open, open_after_answer, opened, opened_by, port_of, taken_by, with_answer}
+use Rattle.sched.specs.Lawful.{IsLawful, IsOutcomeAtExceptAnswer, IsPublishOutcome, IsPublishedBy, IsSomeAnswer, effect_at_turn, effect_outcome, take_outcome}
+use Rattle.sched.specs.Looking.{Node, cell_asked, draws, seen_header_in, is_cell_of_node, program_of, turn_at, turn_by, turn_of}
+use Rattle.sched.specs.Turns.{AreWords, HasAsked, HasEnded, TurnsArePaths, answers_of_calls}
+use Rattle.quotas.specs.MatchesInHistory.{IsMatched, MatchesAreCounted, from_take}
 use Rattle.quotas.proofs.Beginnings.{lawful_before}
 use Rattle.quotas.proofs.Deciding.{EndsInDraw, ends_in_draw}
-use Rattle.quotas.proofs.Ends.{answers_behind, are_answered, front_words, no_end, snoc_front, snoc_last, told_words}
+use Rattle.quotas.proofs.Ends.{answers_after, are_answered, front_words, no_end, snoc_front, snoc_last, words_answered}
 
 some-is : (p q : Open) → ◌≡◌ {A = Option Open} (Some p) (Some q) → p ≡ q
 some-is p q e = cc
@@ -43,14 +43,14 @@ none-is p e = cc
 abbrev with_answers : Open → List ℕ → Open
 with_answers o answers = record o { answers = answers }
 
-record WasTold (h : History) (port : ℕ) (o : Open) (answers : List ℕ) (last : ℕ) : Type 0 where
+record WasAnswered (h : History) (port : ℕ) (o : Open) (answers : List ℕ) (last : ℕ) : Type 0 where
   before : History
   event : Event
-  within : Begins (Then before event (Told last)) h
+  within : BeginsHistory (Then before event (Told last)) h
   own : port_of event ≡ port
   is_open : opened before port ≡ Some (with_answers o answers)
 
-later : (h : History) (port : ℕ) (o : Open) (answers : List ℕ) (last : ℕ) (event : Event) (outcome : Outcome) → WasTold h port o answers last → WasTold (Then h event outcome) port o answers last
+later : (h : History) (port : ℕ) (o : Open) (answers : List ℕ) (last : ℕ) (event : Event) (outcome : Outcome) → WasAnswered h port o answers last → WasAnswered (Then h event outcome) port o answers last
 later h port o answers last event outcome was =
     record { before = was.before; event = was.event; within = longer was.within; own = was.own; is_open = was.is_open }
 
@@ -63,43 +63,43 @@ not_taken h generation (Peak port) o answers last e is = none-is o e
 not_taken h generation (Effect port) o answers last e is = none-is o e
 not_taken h generation (Publish port) o answers last e is = none-is o e
 
-told_here : (h : History) (port : ℕ) (event : Event) (told : ℕ) (open_before : Option Open) (o : Open) (answers : List ℕ) (last : ℕ) → port_of event ≡ port → opened h port ≡ open_before
-    → after_told told open_before ≡ Some o → o.answers ≡ answers ++ last ∷ [] → WasTold (Then h event (Told told)) port o answers last
-told_here h port event told None o answers last own there e is = absurd (none-is o e)
-told_here h port event told (Some p) o answers last own there e is =
-    let grown : with_answer told p ≡ o = some-is _ o e in
-    let both : p.answers ++ told ∷ [] ≡ answers ++ last ∷ [] = ap (λ (x : Open). x.answers) grown ∙ is in
-    let same : told ≡ last = snoc_last p.answers answers told last both in
-    let before : p.answers ≡ answers = snoc_front p.answers answers told last both in
+answered_here : (h : History) (port : ℕ) (event : Event) (reported : ℕ) (open_before : Option Open) (o : Open) (answers : List ℕ) (last : ℕ) → port_of event ≡ port → opened h port ≡ open_before
+    → open_after_answer reported open_before ≡ Some o → o.answers ≡ answers ++ last ∷ [] → WasAnswered (Then h event (Told reported)) port o answers last
+answered_here h port event reported None o answers last own there e is = absurd (none-is o e)
+answered_here h port event reported (Some p) o answers last own there e is =
+    let grown : with_answer reported p ≡ o = some-is _ o e in
+    let both : p.answers ++ reported ∷ [] ≡ answers ++ last ∷ [] = ap (λ (x : Open). x.answers) grown ∙ is in
+    let same : reported ≡ last = snoc_last p.answers answers reported last both in
+    let before : p.answers ≡ answers = snoc_front p.answers answers reported last both in
     let command : p ≡ with_answers o answers = ap (λ (xs : List ℕ). with_answers p xs) before ∙ ap (λ (x : Open). with_answers x answers) grown in
     record {
       before = h;
       event = event;
-      within = subst (λ (k : ℕ). Begins (Then h event (Told k)) (Then h event (Told told))) same whole;
+      within = subst (λ (k : ℕ). BeginsHistory (Then h event (Told k)) (Then h event (Told reported))) same whole;
       own = own;
       is_open = there ∙ ap (λ (x : Open). Some x) command;
     }
 
 own_event : (h : History) (port : ℕ) (event : Event) (outcome : Outcome) (o : Open) (answers : List ℕ) (last : ℕ) → port_of event ≡ port
-    → (opened h port ≡ Some o → WasTold h port o answers last) → opened_by h (opened h port) event outcome ≡ Some o → o.answers ≡ answers ++ last ∷ []
-    → WasTold (Then h event outcome) port o answers last
+    → (opened h port ≡ Some o → WasAnswered h port o answers last) → opened_by h (opened h port) event outcome ≡ Some o → o.answers ≡ answers ++ last ∷ []
+    → WasAnswered (Then h event outcome) port o answers last
 own_event h port event Refused o answers last own earlier e is = later h port o answers last event Refused (earlier e)
 own_event h port event (Discarded discard) o answers last own earlier e is = later h port o answers last event (Discarded discard) (earlier e)
 own_event h port event (Answered status reply) o answers last own earlier e is = later h port o answers last event (Answered status reply) (earlier e)
 own_event h port event (Taken generation) o answers last own earlier e is = absurd (not_taken h generation event o answers last e is)
-own_event h port event (Told told) o answers last own earlier e is = told_here h port event told (opened h port) o answers last own refl e is
+own_event h port event (Told reported) o answers last own earlier e is = answered_here h port event reported (opened h port) o answers last own refl e is
 own_event h port event (Done status reply loaded) o answers last own earlier e is = absurd (none-is o e)
 
 by_port : (h : History) (port : ℕ) (event : Event) (outcome : Outcome) (o : Open) (answers : List ℕ) (last : ℕ) (own : Bool) → (port_of event == port) ≡ own
-    → (opened h port ≡ Some o → WasTold h port o answers last) → (if own then opened_by h (opened h port) event outcome else opened h port) ≡ Some o → o.answers ≡ answers ++ last ∷ []
-    → WasTold (Then h event outcome) port o answers last
+    → (opened h port ≡ Some o → WasAnswered h port o answers last) → (if own then opened_by h (opened h port) event outcome else opened h port) ≡ Some o → o.answers ≡ answers ++ last ∷ []
+    → WasAnswered (Then h event outcome) port o answers last
 by_port h port event outcome o answers last true is earlier e ends = own_event h port event outcome o answers last (eqb-true _ _ is) earlier e ends
 by_port h port event outcome o answers last false is earlier e ends = later h port o answers last event outcome (earlier e)
 
-told_last : (h : History) (port : ℕ) (o : Open) (answers : List ℕ) (last : ℕ) → opened h port ≡ Some o → o.answers ≡ answers ++ last ∷ [] → WasTold h port o answers last
-told_last Start port o answers last e is = absurd (none-is o e)
-told_last (Then h event outcome) port o answers last e is =
-    by_port h port event outcome o answers last (port_of event == port) refl (λ open_there. told_last h port o answers last open_there is) e is
+answered_last : (h : History) (port : ℕ) (o : Open) (answers : List ℕ) (last : ℕ) → opened h port ≡ Some o → o.answers ≡ answers ++ last ∷ [] → WasAnswered h port o answers last
+answered_last Start port o answers last e is = absurd (none-is o e)
+answered_last (Then h event outcome) port o answers last e is =
+    by_port h port event outcome o answers last (port_of event == port) refl (λ open_there. answered_last h port o answers last open_there is) e is
 
 -- ---- where its run asked for it
 
@@ -132,67 +132,67 @@ asked_for program header port before c (answered {calls = calls} {n = n} {s = s}
 -- ---- the event that told it
 
 -- an event that is answered when the program asks `ticket` for a cell draws a ticket of that
-ticket_asked : (n : Node) (h : History) (event : Event) (told map key : ℕ) (o : Open) → IsOutcomeAtButTold n h event (Told told) → opened h (port_of event) ≡ Some o
+ticket_asked : (n : Node) (h : History) (event : Event) (reported map key : ℕ) (o : Open) → IsOutcomeAtExceptAnswer n h event (Told reported) → opened h (port_of event) ≡ Some o
     → turn_at n h (port_of event) ≡ Some (turns.Ask (question helpers.Ticket map key 0)) → draws (turn_at n h (port_of event)) event map key ≡ true
-ticket_asked n h (Take port packet) told map key o at is_open asks =
+ticket_asked n h (Take port packet) reported map key o at is_open asks =
     let refused : take_outcome n h packet (opened h port) ≡ Refused = ap (λ (x : Option Open). take_outcome n h packet x) is_open in
-    let no : Told told ≡ Refused = at ∙ refused in cc
-ticket_asked n h (Count port) told map key o at is_open asks =
-    let no : Told told ≡ Refused = subst (λ (t : Option Turn). IsSomeTold (cell_asked helpers.Count t) (Told told)) asks at in cc
-ticket_asked n h (Peak port) told map key o at is_open asks =
-    let no : Told told ≡ Refused = subst (λ (t : Option Turn). IsSomeTold (cell_asked helpers.Peak t) (Told told)) asks at in cc
-ticket_asked n h (Ticket port) told map key o at is_open asks =
+    let no : Told reported ≡ Refused = at ∙ refused in cc
+ticket_asked n h (Count port) reported map key o at is_open asks =
+    let no : Told reported ≡ Refused = subst (λ (t : Option Turn). IsSomeAnswer (cell_asked helpers.Count t) (Told reported)) asks at in cc
+ticket_asked n h (Peak port) reported map key o at is_open asks =
+    let no : Told reported ≡ Refused = subst (λ (t : Option Turn). IsSomeAnswer (cell_asked helpers.Peak t) (Told reported)) asks at in cc
+ticket_asked n h (Ticket port) reported map key o at is_open asks =
     ap (λ (t : Option Turn). is_cell_of_node (cell_asked helpers.Ticket t) map key) asks ∙ and_from (map == map) (key == key) (eq-eqb map map refl) (eq-eqb key key refl)
-ticket_asked n h (Effect port) told map key o at is_open asks =
+ticket_asked n h (Effect port) reported map key o at is_open asks =
     let stands : turn_of n port o ≡ Some (turns.Ask (question helpers.Ticket map key 0)) = sym (ap (λ (x : Option Open). turn_by n port x) is_open) ∙ asks in
     let refused : effect_outcome n h port (opened h port) ≡ Refused = ap (λ (x : Option Open). effect_outcome n h port x) is_open ∙ ap (λ (t : Option Turn). effect_at_turn n h port o t) stands in
-    let no : Told told ≡ Refused = at ∙ refused in cc
-ticket_asked n h (Publish port) told map key o at is_open asks =
+    let no : Told reported ≡ Refused = at ∙ refused in cc
+ticket_asked n h (Publish port) reported map key o at is_open asks =
     let stands : turn_of n port o ≡ Some (turns.Ask (question helpers.Ticket map key 0)) = sym (ap (λ (x : Option Open). turn_by n port x) is_open) ∙ asks in
-    let by_open : IsPublishedBy n h port o (turn_of n port o) (Told told) = subst (λ (x : Option Open). IsPublishOutcome n h port x (Told told)) is_open at in
-    let no : Told told ≡ Refused = subst (λ (t : Option Turn). IsPublishedBy n h port o t (Told told)) stands by_open in cc
+    let by_open : IsPublishedBy n h port o (turn_of n port o) (Told reported) = subst (λ (x : Option Open). IsPublishOutcome n h port x (Told reported)) is_open at in
+    let no : Told reported ≡ Refused = subst (λ (t : Option Turn). IsPublishedBy n h port o t (Told reported)) stands by_open in cc
 
 -- something is answered only at a port of the node
-told_there : (n : Node) (h : History) (event : Event) (told : ℕ) → IsLawful n (Then h event (Told told)) → IsOutcomeAtButTold n h event (Told told)
-told_there n h event told lawful = by (cases_lt (port_of event) n.ports)
+answered_there : (n : Node) (h : History) (event : Event) (reported : ℕ) → IsLawful n (Then h event (Told reported)) → IsOutcomeAtExceptAnswer n h event (Told reported)
+answered_there n h event reported lawful = by (cases_lt (port_of event) n.ports)
   where
-    by : (port_of event < n.ports) ⊎ (n.ports ≤ port_of event) → IsOutcomeAtButTold n h event (Told told)
-    by (inl there) = lawful.but_told.1.here there
-    by (inr nowhere) = let no : Told told ≡ Refused = lawful.but_told.1.nowhere nowhere in cc
+    by : (port_of event < n.ports) ⊎ (n.ports ≤ port_of event) → IsOutcomeAtExceptAnswer n h event (Told reported)
+    by (inl there) = lawful.except_answers.1.here there
+    by (inr nowhere) = let no : Told reported ≡ Refused = lawful.except_answers.1.nowhere nowhere in cc
 
 -- ---- the match
 
 -- a run of the command's program on its answers
 record HasRun (n : Node) (port : ℕ) (o : Open) : Type 0 where
   safe : IsSafe (program_of n o) n.sizes
-  header : IsHeader (header_in o.packet)
+  header : IsProgramHeader (seen_header_in o.packet)
   words : AreWords o.answers
   verdict : ℕ
-  run : HasEnded (program_of n o) (header_in o.packet) port o.answers verdict
+  run : HasEnded (program_of n o) (seen_header_in o.packet) port o.answers verdict
 
-run_of : (n : Node) (h : History) (event : Event) (outcome : Outcome) (o : Open) → IsJudgedOnce n h event outcome → opened h (port_of event) ≡ Some o → HasRun n (port_of event) o
+run_of : (n : Node) (h : History) (event : Event) (outcome : Outcome) (o : Open) → IsTakenOnceDoneOnce n h event outcome → opened h (port_of event) ≡ Some o → HasRun n (port_of event) o
 run_of n h event outcome o j is_open =
     let own : HasRun n (port_of event) j.taken = record { safe = j.safe; header = j.header; words = j.words; verdict = j.verdict; run = j.run } in
     subst (λ (x : Open). HasRun n (port_of event) x) (some-is _ o (sym j.is_open ∙ is_open)) own
 
 module _ (paths : TurnsArePaths) (n : Node) (h : History) (port : ℕ) (o : Open) (rules : List Rule) (quota : Quota) (low : port < 32) (lawful : IsLawful n h) (is_open : opened h port ≡ Some o)
-    (ran : HasRun n port o) (meaning : HasMeaning rules (program_of n o)) (matched : matching_quota rules (header_in o.packet) (told_by o.answers) ≡ Some quota) where
-  calls_are : ran.run.calls ≡ (decision rules (header_in o.packet) (told_by o.answers)).0
+    (ran : HasRun n port o) (meaning : HasMeaning rules (program_of n o)) (matched : matching_quota rules (seen_header_in o.packet) (answers_in_turn o.answers) ≡ Some quota) where
+  calls_are : ran.run.calls ≡ (decision rules (seen_header_in o.packet) (answers_in_turn o.answers)).0
   calls_are =
-      let ended : HasEnded (program_of n o) (header_in o.packet) port o.answers ran.verdict = ran.run in
-      let by_own : AreAnswered (told_by o.answers) ended.calls = subst (λ (answers : List ℕ). AreAnswered (told_by answers) ended.calls) ended.answered (are_answered ended.calls) in
-      (meaning.only (header_in o.packet) port (told_by o.answers) ended.calls ended.run.0 ran.verdict ran.header low (told_words o.answers ran.words) by_own ended.run.2).0
+      let ended : HasEnded (program_of n o) (seen_header_in o.packet) port o.answers ran.verdict = ran.run in
+      let by_own : AreAnswered (answers_in_turn o.answers) ended.calls = subst (λ (answers : List ℕ). AreAnswered (answers_in_turn answers) ended.calls) ended.answered (are_answered ended.calls) in
+      (meaning.only (seen_header_in o.packet) port (answers_in_turn o.answers) ended.calls ended.run.0 ran.verdict ran.header low (words_answered o.answers ran.words) by_own ended.run.2).0
 
   matches : IsMatched n h quota.map quota.cell quota.limit (from_take port o)
   matches =
       let program : Program = program_of n o in
-      let header : Header = header_in o.packet in
+      let header : Header = seen_header_in o.packet in
       let ended : HasEnded program header port o.answers ran.verdict = ran.run in
-      let last : EndsInDraw (decision rules header (told_by o.answers)).0 quota = ends_in_draw rules header (told_by o.answers) quota matched in
-      let front : List ℕ = answers_of last.before in
+      let last : EndsInDraw (decision rules header (answers_in_turn o.answers)).0 quota = ends_in_draw rules header (answers_in_turn o.answers) quota matched in
+      let front : List ℕ = answers_of_calls last.before in
       let calls : ended.calls ≡ last.before ++ draw quota last.answer ∷ [] = calls_are ∙ last.is in
-      let answers : o.answers ≡ front ++ last.answer ∷ [] = sym ended.answered ∙ ap answers_of calls ∙ answers_behind last.before (draw quota last.answer) in
-      let was : WasTold h port o front last.answer = told_last h port o front last.answer is_open answers in
+      let answers : o.answers ≡ front ++ last.answer ∷ [] = sym ended.answered ∙ ap answers_of_calls calls ∙ answers_after last.before (draw quota last.answer) in
+      let was : WasAnswered h port o front last.answer = answered_last h port o front last.answer is_open answers in
       let command : Open = with_answers o front in
       let asked : AskedFor program header port last.before (draw quota last.answer) = asked_for program header port last.before (draw quota last.answer) ended.run.2.path calls in
       let words : AreWords front = front_words front last.answer (subst (λ (xs : List ℕ). All (λ answer. answer < 2 ^ 64) xs) answers ran.words) in
@@ -202,7 +202,7 @@ module _ (paths : TurnsArePaths) (n : Node) (h : History) (port : ℕ) (o : Open
       let at_port : turn_at n was.before port ≡ Some (turns.Ask (question helpers.Ticket quota.map quota.cell 0)) = ap (λ (x : Option Open). turn_by n port x) was.is_open ∙ stands ∙ ap (λ (t : Turn). Some t) same in
       let there : turn_at n was.before (port_of was.event) ≡ Some (turns.Ask (question helpers.Ticket quota.map quota.cell 0)) = ap (λ (p : ℕ). turn_at n was.before p) was.own ∙ at_port in
       let open_there : opened was.before (port_of was.event) ≡ Some command = ap (λ (p : ℕ). opened was.before p) was.own ∙ was.is_open in
-      let told = told_there n was.before was.event last.answer (lawful_before n was.within lawful) in
+      let reported = answered_there n was.before was.event last.answer (lawful_before n was.within lawful) in
       record {
         before = was.before;
         event = was.event;
@@ -212,7 +212,7 @@ module _ (paths : TurnsArePaths) (n : Node) (h : History) (port : ℕ) (o : Open
         small = omega arith;
         match = record {
           answer = last.answer;
-          draw = record { asked = ticket_asked n was.before was.event last.answer quota.map quota.cell command told open_there there; told = refl };
+          draw = record { asked = ticket_asked n was.before was.event last.answer quota.map quota.cell command reported open_there there; reported = refl };
           command = command;
           is_open = open_there;
           ends = record {
@@ -220,7 +220,7 @@ module _ (paths : TurnsArePaths) (n : Node) (h : History) (port : ℕ) (o : Open
             meaning = meaning;
             calls = ended.calls;
             answered = ended.answered ∙ answers;
-            match = record { told = told_by o.answers; draws = calls_are; quota = quota; matched = matched; of_map = refl; of_cell = refl; of_limit = refl };
+            match = record { reported = answers_in_turn o.answers; draws = calls_are; quota = quota; matched = matched; of_map = refl; of_cell = refl; of_limit = refl };
           };
         };
         taken = ap (λ (p : ℕ). from_take p o) was.own;
@@ -232,4 +232,4 @@ quotas_are_counted paths once n h event status reply loaded o rules quota node b
     let there = j.there in
     let few = node.few_ports in
     let low : port_of event < 32 = omega (arith, there, few) in
-    matches paths n h (port_of event) o rules quota low (record { but_told = lawful.but_told.0; told = lawful.told.0 }) is_open (run_of n h event (Done status reply loaded) o j is_open) meaning matched
+    matches paths n h (port_of event) o rules quota low (record { except_answers = lawful.except_answers.0; reported = lawful.reported.0 }) is_open (run_of n h event (Done status reply loaded) o j is_open) meaning matched

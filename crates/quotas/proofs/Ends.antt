@@ -4,8 +4,8 @@ use Rattle.std.specs.Prelude.{All}
 use Rattle.std.proofs.lemmas.List.Elements.{All-cons, All-head, All-nil, All-tail}
 use Rattle.machine.specs.declared.calls.Call.{Call}
 use Rattle.machine.specs.Runs.{AreAnswered}
-use Rattle.policy_table.specs.Meaning.{told_by}
-use Rattle.sched.specs.Turns.{answers_of}
+use Rattle.policy_table.specs.Meaning.{answers_in_turn}
+use Rattle.sched.specs.Turns.{answers_of_calls}
 
 pub no_end : {A : Type 0} (xs : List A) (a : A) → [] ≡ xs ++ a ∷ [] → ⊥
 no_end xs a e = omega (arith, ap length e, length-append xs (a ∷ []))
@@ -39,19 +39,19 @@ snoc_front (x ∷ xs) (y ∷ ys) a b e = ap₂ (λ z zs. z ∷ zs) (ap (λ zs. h
 
 -- ---- answers of calls
 
-pub answers_behind : (calls : List Call) (c : Call) → answers_of (calls ++ c ∷ []) ≡ answers_of calls ++ c.answer ∷ []
-answers_behind [] c = refl
-answers_behind (d ∷ calls) c = ap (λ (answers : List ℕ). d.answer ∷ answers) (answers_behind calls c)
+pub answers_after : (calls : List Call) (c : Call) → answers_of_calls (calls ++ c ∷ []) ≡ answers_of_calls calls ++ c.answer ∷ []
+answers_after [] c = refl
+answers_after (d ∷ calls) c = ap (λ (answers : List ℕ). d.answer ∷ answers) (answers_after calls c)
 
 -- calls are answered by their own answers
-pub are_answered : (calls : List Call) → AreAnswered (told_by (answers_of calls)) calls
+pub are_answered : (calls : List Call) → AreAnswered (answers_in_turn (answers_of_calls calls)) calls
 are_answered [] = tt
 are_answered (c ∷ calls) = (refl, are_answered calls)
 
-pub told_words : (answers : List ℕ) → All (λ answer. answer < 2 ^ 64) answers → (k : ℕ) → told_by answers k < 2 ^ 64
-told_words [] words k = omega arith
-told_words (a ∷ answers) words zero = All-head (λ answer. answer < 2 ^ 64) a answers words
-told_words (a ∷ answers) words (suc k) = told_words answers (All-tail (λ answer. answer < 2 ^ 64) a answers words) k
+pub words_answered : (answers : List ℕ) → All (λ answer. answer < 2 ^ 64) answers → (k : ℕ) → answers_in_turn answers k < 2 ^ 64
+words_answered [] words k = omega arith
+words_answered (a ∷ answers) words zero = All-head (λ answer. answer < 2 ^ 64) a answers words
+words_answered (a ∷ answers) words (suc k) = words_answered answers (All-tail (λ answer. answer < 2 ^ 64) a answers words) k
 
 pub front_words : (xs : List ℕ) (a : ℕ) → All (λ answer. answer < 2 ^ 64) (xs ++ a ∷ []) → All (λ answer. answer < 2 ^ 64) xs
 front_words [] a words = All-nil (λ answer. answer < 2 ^ 64)

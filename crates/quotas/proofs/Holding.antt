@@ -4,12 +4,12 @@ use Rattle.std.specs.Prelude.{◌≢◌, ◌^◌, All}
 use Rattle.std.proofs.Common.{◌≡◌, ◌<◌, ◌⊎◌, ℕ, suc, List, [], ◌∷◌, length, Option, Some, refl, sym, ap, ap₂, ◌∙◌, arith, inl, inr}
 use Rattle.std.proofs.lemmas.List.Elements.{All-head, All-tail}
 use Rattle.sched.specs.declared.event.Event.{Event}
-use Rattle.sched.specs.Headline.{Begins}
+use Rattle.sched.specs.Headline.{BeginsHistory}
 use Rattle.sched.specs.History.{History, Then, Open, opened, port_of}
 use Rattle.sched.specs.Lawful.{IsLawful}
-use Rattle.sched.specs.Looking.{Node, header_in, tickets}
-use Rattle.quotas.specs.Matches.{AreApart, IsMatched, QuotasHold, from_take}
-use Rattle.quotas.proofs.Beginnings.{lawful_before, ordered, same_or_shorter, ticket_counts, tickets_rise, told_tickets}
+use Rattle.sched.specs.Looking.{Node, seen_header_in, tickets}
+use Rattle.quotas.specs.MatchesInHistory.{AreOtherHistories, IsMatched, QuotasHold, from_take}
+use Rattle.quotas.proofs.Beginnings.{lawful_before, ordered, same_or_shorter, ticket_counts, tickets_rise, answered_tickets}
 use Rattle.quotas.proofs.Deciding.{match_below}
 use Rattle.quotas.proofs.Numbers.{AreBelow, AreDistinct, IsNotIn, pigeonhole}
 
@@ -24,21 +24,21 @@ module _ (n : Node) (h : History) (map key limit : ℕ) (lawful : IsLawful n h) 
   number_below : (take : History) (m : IsMatched n h map key limit take) → number take m < limit
   unfolding number
   number_below take m =
-      let told = told_tickets n m.before m.event m.outcome map key m.match.answer (lawful_before n m.within lawful) m.match.draw in
+      let reported = answered_tickets n m.before m.event m.outcome map key m.match.answer (lawful_before n m.within lawful) m.match.draw in
       let counted = ticket_counts n m.before m.event m.outcome map key m.match.answer m.match.draw in
       let rises = tickets_rise n map key m.within in
       let ends = m.match.ends in
-      let below = match_below ends.rules (header_in m.match.command.packet) ends.calls map key m.own_limit m.match.command.answers m.match.answer ends.match ends.answered in
+      let below = match_below ends.rules (seen_header_in m.match.command.packet) ends.calls map key m.own_limit m.match.command.answers m.match.answer ends.match ends.answered in
       let small = m.small in
-      omega (arith, told, counted, rises, below, small, few)
+      omega (arith, reported, counted, rises, below, small, few)
 
   -- the same draw is of the same command, and a later one has a greater number
   apart_by : (a b : History) (one : IsMatched n h map key limit a) (other : IsMatched n h map key limit b) → a ≢ b
-      → Begins (Then one.before one.event one.outcome) (Then other.before other.event other.outcome) → number a one ≢ number b other
+      → BeginsHistory (Then one.before one.event one.outcome) (Then other.before other.event other.outcome) → number a one ≢ number b other
   unfolding number
   apart_by a b one other apart begins same = by (same_or_shorter begins)
     where
-      by : ((one.before ≡ other.before) × (one.event ≡ other.event)) ⊎ Begins (Then one.before one.event one.outcome) other.before → ⊥
+      by : ((one.before ≡ other.before) × (one.event ≡ other.event)) ⊎ BeginsHistory (Then one.before one.event one.outcome) other.before → ⊥
       by (inl alike) =
           let both : opened one.before (port_of one.event) ≡ opened other.before (port_of other.event) = ap₂ (λ (g : History) (e : Event). opened g (port_of e)) alike.0 alike.1 in
           let command : one.match.command ≡ other.match.command = some-is _ _ (sym one.match.is_open ∙ both ∙ other.match.is_open) in
@@ -52,7 +52,7 @@ module _ (n : Node) (h : History) (map key limit : ℕ) (lawful : IsLawful n h) 
   numbers_apart : (a b : History) (one : IsMatched n h map key limit a) (other : IsMatched n h map key limit b) → a ≢ b → number a one ≢ number b other
   numbers_apart a b one other apart same = by (ordered one.within other.within)
     where
-      by : Begins (Then one.before one.event one.outcome) (Then other.before other.event other.outcome) ⊎ Begins (Then other.before other.event other.outcome) (Then one.before one.event one.outcome) → ⊥
+      by : BeginsHistory (Then one.before one.event one.outcome) (Then other.before other.event other.outcome) ⊎ BeginsHistory (Then other.before other.event other.outcome) (Then one.before one.event one.outcome) → ⊥
       by (inl begins) = apart_by a b one other apart begins same
       by (inr begins) = apart_by b a other one (λ e. apart (sym e)) begins (sym same)
 
@@ -83,7 +83,7 @@ module _ (n : Node) (h : History) (map key limit : ℕ) (lawful : IsLawful n h) 
     not_again a one takes (All-tail (λ t. IsMatched n h map key limit t) take takes each) (All-tail (λ t. a ≢ t) take takes apart),
   )
 
-  all_apart : (takes : List History) (each : All (λ take. IsMatched n h map key limit take) takes) → AreApart takes → AreDistinct (numbers takes each)
+  all_apart : (takes : List History) (each : All (λ take. IsMatched n h map key limit take) takes) → AreOtherHistories takes → AreDistinct (numbers takes each)
   unfolding numbers
   all_apart [] each apart = tt
   all_apart (take ∷ takes) each apart = (

@@ -16,7 +16,7 @@ use Rattle.ports.specs.Due.{Judging, judgings}
 use Rattle.ports.specs.Laws.{WorkersAskOnce}
 use Rattle.quotas.specs.Threads.{HaveMatched, HasMatched, PortRun, QuotasHoldInThreads, calls_at, judged_at}
 use Rattle.quotas.proofs.Deciding.{EndsLow, drawn_of, ends_below}
-use Rattle.sched.specs.Looking.{header_in}
+use Rattle.sched.specs.Looking.{seen_header_in}
 
 -- ---- numbers below a limit
 
@@ -110,7 +110,7 @@ abbrev calls_in : List Judging → List Call
 calls_in js = flat_map (λ (j : Judging). j.calls) js
 
 matched_low : (m key limit : ℕ) (j : Judging) → HasMatched m key limit j → 0 < low limit (tickets_of m key j.calls)
-matched_low m key limit j is = ends_low j.calls m key limit (ends_below is.rules (header_in j.judged.packet) j.calls m key is.own_limit limit is.match is.small)
+matched_low m key limit j is = ends_low j.calls m key limit (ends_below is.rules (seen_header_in j.judged.packet) j.calls m key is.own_limit limit is.match is.small)
 
 count_low : (m key limit : ℕ) (js : List Judging) (count : ℕ) → HaveMatched m key limit js count → count ≤ low limit (tickets_of m key (calls_in js))
 count_low m key limit [] count none = omega (arith, none)

@@ -13,26 +13,26 @@ use Rattle.plain_cells.specs.Words.{tickets_in}
 use Rattle.policy.specs.Compiled.{HasMeaning}
 use Rattle.policy_table.specs.Matching.{EndsByMatch}
 use Rattle.policy_table.specs.declared.rules.Rule.{Rule}
-use Rattle.sched.specs.Looking.{header_in}
-use Rattle.single_node.specs.Nodes.{IsFresh, Rotates, SetsMemory, SingleNodeValue}
-use Rattle.single_node.specs.Serving.{Serves}
+use Rattle.sched.specs.Looking.{seen_header_in}
+use Rattle.single_node.specs.Nodes.{IsFreshNode, Rotates, SetsMemory, SingleNodeValue}
+use Rattle.single_node.specs.Serving.{ServesPacketAt}
 use Rattle.spw.specs.Cargo.{Cargo}
 
 -- ---- what is done to a node
 
 -- A call on a node of one thread that changes it: a packet is served, a journal is handed out, or bytes are set.
-pub data Deed : (before after : SingleNodeValue) → Type 0 where
+pub data NodeCall : (before after : SingleNodeValue) → Type 0 where
   serves : {before after : SingleNodeValue} (served : Served) (port : ℕ) (packet : Cargo) (reply : List ℕ)
-      → Serves served port packet before after reply → Deed before after
+      → ServesPacketAt served port packet before after reply → NodeCall before after
   rotates : {before after : SingleNodeValue} (number : ℕ) (fresh old : JournalValue)
-      → Rotates number fresh before after old → Deed before after
+      → Rotates number fresh before after old → NodeCall before after
   sets : {before after : SingleNodeValue} (number address : ℕ) (bytes : List ℕ) (fresh old : JournalValue)
-      → SetsMemory number address bytes fresh before after old → Deed before after
+      → SetsMemory number address bytes fresh before after old → NodeCall before after
 
 -- the calls that led from one node to another, in order
 pub data Way (first : SingleNodeValue) : SingleNodeValue → Type 0 where
   here : Way first first
-  further : {between last : SingleNodeValue} → Way first between → Deed between last → Way first last
+  further : {between last : SingleNodeValue} → Way first between → NodeCall between last → Way first last
 
 -- ---- tickets
 
@@ -45,17 +45,17 @@ calls_by (Done result) p old new h after reply answered = answered.judgement.cal
 calls_by (Window status) p old new h after reply answered = answered.judgement.calls
 
 -- the helper calls of the run of a call, if it has one
-abbrev pub calls_of : {before after : SingleNodeValue} → Deed before after → List Call
-calls_of {before} {after} (serves served port packet reply s) =
+abbrev pub helper_calls_of : {before after : SingleNodeValue} → NodeCall before after → List Call
+helper_calls_of {before} {after} (serves served port packet reply s) =
     calls_by served packet (parts before.banks before.programs) (parts after.banks after.programs) s.holder s.left reply
     s.answered
-calls_of (rotates number fresh old s) = []
-calls_of (sets number address bytes fresh old s) = []
+helper_calls_of (rotates number fresh old s) = []
+helper_calls_of (sets number address bytes fresh old s) = []
 
 -- how many tickets of the cell were drawn on the way
 abbrev pub tickets_on : {first last : SingleNodeValue} → Way first last → (map key : ℕ) → ℕ
 tickets_on here map key = 0
-tickets_on (further way deed) map key = tickets_on way map key + tickets_in (calls_of deed) map key
+tickets_on (further way deed) map key = tickets_on way map key + tickets_in (helper_calls_of deed) map key
 
 -- ---- matches
 
@@ -67,7 +67,7 @@ pub record IsMatch (map key limit : ℕ) {h after : PassValue} {p : Cargo} {j : 
   pub meaning : HasMeaning rules judgement.program.program
   pub own_limit : ℕ
   pub small : own_limit ≤ limit
-  pub match : EndsByMatch rules (header_in p) judgement.calls map key own_limit
+  pub match : EndsByMatch rules (seen_header_in p) judgement.calls map key own_limit
 
 -- the same of what became of a packet
 abbrev pub IsMatchBy : (map key limit : ℕ) (served : Served) (p : Cargo) (old new : PartsValue) (h after : PassValue)
@@ -78,7 +78,7 @@ IsMatchBy map key limit (Done result) p old new h after reply answered = IsMatch
 IsMatchBy map key limit (Window status) p old new h after reply answered = IsMatch map key limit answered.judgement
 
 -- a packet was served whose command a rule on the cell with at most that limit matched
-abbrev pub IsMatchOf : (map key limit : ℕ) {before after : SingleNodeValue} → Deed before after → Type 0
+abbrev pub IsMatchOf : (map key limit : ℕ) {before after : SingleNodeValue} → NodeCall before after → Type 0
 IsMatchOf map key limit {before} {after} (serves served port packet reply s) =
     IsMatchBy map key limit served packet (parts before.banks before.programs) (parts after.banks after.programs) s.holder
     s.left reply s.answered
@@ -99,5 +99,5 @@ AreMatches map key limit (further way deed) count =
 abbrev pub QuotasHoldAlone : Type 0
 QuotasHoldAlone =
     (config : NodeConfig) (factory : AcceptedValue) (first last : SingleNodeValue) (way : Way first last)
-    (map key limit count : ℕ) → IsFresh config factory first → tickets_on way map key < 2 ^ 64
+    (map key limit count : ℕ) → IsFreshNode config factory first → tickets_on way map key < 2 ^ 64
     → AreMatches map key limit way count → count ≤ limit

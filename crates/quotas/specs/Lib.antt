@@ -1,3 +1,3 @@
-pub mod Matches
+pub mod MatchesInHistory
 pub mod Alone
 pub mod Threads

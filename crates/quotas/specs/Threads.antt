@@ -8,7 +8,7 @@ use Rattle.policy.specs.Compiled.{HasMeaning}
 use Rattle.policy_table.specs.Matching.{EndsByMatch}
 use Rattle.policy_table.specs.declared.rules.Rule.{Rule}
 use Rattle.ports.specs.Due.{Deed, Judging, Standing, Worked, judgings}
-use Rattle.sched.specs.Looking.{header_in}
+use Rattle.sched.specs.Looking.{seen_header_in}
 use Rattle.spw.specs.Cargo.{Cargo}
 
 -- ---- what was done at the ports
@@ -40,7 +40,7 @@ pub record HasMatched (map key limit : ℕ) (judging : Judging) : Type 0 where
   pub meaning : HasMeaning rules judging.program.program
   pub own_limit : ℕ
   pub small : own_limit ≤ limit
-  pub match : EndsByMatch rules (header_in judging.judged.packet) judging.calls map key own_limit
+  pub match : EndsByMatch rules (seen_header_in judging.judged.packet) judging.calls map key own_limit
 
 -- that many of the commands were matched by such rules
 abbrev pub HaveMatched : (map key limit : ℕ) → List Judging → (count : ℕ) → Type 0

@@ -1,7 +1,7 @@
 //! The laws of quotas.
 
 ghost use Rattle.quotas.specs.Alone.{QuotasHoldAlone};
-ghost use Rattle.quotas.specs.Matches.{MatchesAreCounted, QuotasHold};
+ghost use Rattle.quotas.specs.MatchesInHistory.{MatchesAreCounted, QuotasHold};
 ghost use Rattle.quotas.specs.Threads.{QuotasHoldInThreads};
 
 use plain_cells::tickets_are_counted;

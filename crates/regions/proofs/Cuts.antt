@@ -7,7 +7,7 @@ use Rattle.regions.specs.Regions.{is_one_of, lies_in, meets, meets_last}
 use Rattle.regions.specs.declared.byte_sets.ByteSet.{ByteSet}
 use Rattle.regions.specs.declared.points.Point.{Point}
 use Rattle.regions.specs.declared.regions.Kinds.{Kinds}
-use Rattle.regions.specs.declared.regions.Region.{Region}
+use Rattle.regions.specs.declared.regions.PointRegion.{PointRegion}
 use Rattle.regions.specs.declared.sides.Side.{Side}
 use Rattle.regions.specs.declared.stretches.Stretch.{Stretch}
 
@@ -48,7 +48,7 @@ at_last_before k l m n f g i a b y e = pull k (l && (m && (n && (f && (g && (i &
 
 -- ---- regions with another set in one field
 
-module _ (region : Region) (p : Point) (y : Bool) where
+module _ (region : PointRegion) (p : Point) (y : Bool) where
   pub kinds_in : (kinds : Kinds) → is_one_of kinds p.kind ≡ (is_one_of region.kinds p.kind && y)
       → lies_in (record { kinds = kinds; keys = region.keys; initiators = region.initiators; extended = region.extended; first = region.first; last = region.last }) p ≡ (lies_in region p && y)
   kinds_in kinds e = at_kind (is_one_of region.kinds p.kind) (is_one_of kinds p.kind) (meets_last 7 region p) y e
@@ -69,41 +69,41 @@ module _ (region : Region) (p : Point) (y : Bool) where
       (meets_last 4 region p) y e
 
   -- the conditions of the bytes, and what is left
-  abbrev behind_bytes : Bool → Bool
-  behind_bytes t = is_one_of region.kinds p.kind && (has_byte region.keys p.key && (has_byte region.initiators p.initiator && (has_byte region.extended p.extended && t)))
+  abbrev after_bytes : Bool → Bool
+  after_bytes t = is_one_of region.kinds p.kind && (has_byte region.keys p.key && (has_byte region.initiators p.initiator && (has_byte region.extended p.extended && t)))
 
   pub first_start : (first : Stretch) → first.end ≡ region.first.end → nat_le first.start p.first ≡ (nat_le region.first.start p.first && y)
       → lies_in (record { kinds = region.kinds; keys = region.keys; initiators = region.initiators; extended = region.extended; first = first; last = region.last }) p ≡ (lies_in region p && y)
   first_start first end e =
-      ap (λ (n : ℕ). behind_bytes (nat_le first.start p.first && (nat_lt p.first n && meets_last 2 region p))) end
+      ap (λ (n : ℕ). after_bytes (nat_le first.start p.first && (nat_lt p.first n && meets_last 2 region p))) end
       ∙ at_first_from (is_one_of region.kinds p.kind) (has_byte region.keys p.key) (has_byte region.initiators p.initiator) (has_byte region.extended p.extended)
       (nat_le region.first.start p.first) (nat_le first.start p.first) (meets_last 3 region p) y e
 
   pub first_end : (first : Stretch) → first.start ≡ region.first.start → nat_lt p.first first.end ≡ (nat_lt p.first region.first.end && y)
       → lies_in (record { kinds = region.kinds; keys = region.keys; initiators = region.initiators; extended = region.extended; first = first; last = region.last }) p ≡ (lies_in region p && y)
   first_end first start e =
-      ap (λ (n : ℕ). behind_bytes (nat_le n p.first && (nat_lt p.first first.end && meets_last 2 region p))) start
+      ap (λ (n : ℕ). after_bytes (nat_le n p.first && (nat_lt p.first first.end && meets_last 2 region p))) start
       ∙ at_first_before (is_one_of region.kinds p.kind) (has_byte region.keys p.key) (has_byte region.initiators p.initiator) (has_byte region.extended p.extended)
       (nat_le region.first.start p.first) (nat_lt p.first region.first.end) (nat_lt p.first first.end) (meets_last 2 region p) y e
 
   pub last_start : (last : Stretch) → last.end ≡ region.last.end → nat_le last.start p.last ≡ (nat_le region.last.start p.last && y)
       → lies_in (record { kinds = region.kinds; keys = region.keys; initiators = region.initiators; extended = region.extended; first = region.first; last = last }) p ≡ (lies_in region p && y)
   last_start last end e =
-      ap (λ (n : ℕ). behind_bytes (nat_le region.first.start p.first && (nat_lt p.first region.first.end && (nat_le last.start p.last && (nat_lt p.last n && true))))) end
+      ap (λ (n : ℕ). after_bytes (nat_le region.first.start p.first && (nat_lt p.first region.first.end && (nat_le last.start p.last && (nat_lt p.last n && true))))) end
       ∙ at_last_from (is_one_of region.kinds p.kind) (has_byte region.keys p.key) (has_byte region.initiators p.initiator) (has_byte region.extended p.extended)
       (nat_le region.first.start p.first) (nat_lt p.first region.first.end) (nat_le region.last.start p.last) (nat_le last.start p.last) (meets_last 1 region p) y e
 
   pub last_end : (last : Stretch) → last.start ≡ region.last.start → nat_lt p.last last.end ≡ (nat_lt p.last region.last.end && y)
       → lies_in (record { kinds = region.kinds; keys = region.keys; initiators = region.initiators; extended = region.extended; first = region.first; last = last }) p ≡ (lies_in region p && y)
   last_end last start e =
-      ap (λ (n : ℕ). behind_bytes (nat_le region.first.start p.first && (nat_lt p.first region.first.end && (nat_le n p.last && (nat_lt p.last last.end && true))))) start
+      ap (λ (n : ℕ). after_bytes (nat_le region.first.start p.first && (nat_lt p.first region.first.end && (nat_le n p.last && (nat_lt p.last last.end && true))))) start
       ∙ at_last_before (is_one_of region.kinds p.kind) (has_byte region.keys p.key) (has_byte region.initiators p.initiator) (has_byte region.extended p.extended)
       (nat_le region.first.start p.first) (nat_lt p.first region.first.end) (nat_le region.last.start p.last) (nat_lt p.last region.last.end) (nat_lt p.last last.end) y e
 
-pub by_side : (region shape : Region) (p : Point) (side own : Side) (t : Bool) → side ≡ own → t ≡ (lies_in region p && meets own shape p) → t ≡ (lies_in region p && meets side shape p)
+pub by_side : (region shape : PointRegion) (p : Point) (side own : Side) (t : Bool) → side ≡ own → t ≡ (lies_in region p && meets own shape p) → t ≡ (lies_in region p && meets side shape p)
 by_side region shape p side own t e h = subst (λ (s : Side). t ≡ (lies_in region p && meets s shape p)) (sym e) h
 
-pub by_other_side : (region shape : Region) (p : Point) (side own : Side) (t : Bool) → side ≡ own → t ≡ (lies_in region p && not (meets own shape p)) → t ≡ (lies_in region p && not (meets side shape p))
+pub by_other_side : (region shape : PointRegion) (p : Point) (side own : Side) (t : Bool) → side ≡ own → t ≡ (lies_in region p && not (meets own shape p)) → t ≡ (lies_in region p && not (meets side shape p))
 by_other_side region shape p side own t e h = subst (λ (s : Side). t ≡ (lies_in region p && not (meets s shape p))) (sym e) h
 
 -- ---- stretches

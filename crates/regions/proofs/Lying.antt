@@ -6,7 +6,7 @@ use Rattle.regions.specs.ByteSets.{has_byte}
 use Rattle.regions.specs.Points.{HasCommand, lies_on}
 use Rattle.regions.specs.Regions.{IsBare, is_one_of, lies_in, meets, meets_last, side_of}
 use Rattle.regions.specs.declared.points.Point.{Point}
-use Rattle.regions.specs.declared.regions.Region.{Region}
+use Rattle.regions.specs.declared.regions.PointRegion.{PointRegion}
 use Rattle.regions.specs.declared.sides.Side.{Side}
 use Rattle.regions.specs.declared.stretches.Stretch.{Stretch}
 
@@ -23,7 +23,7 @@ false_of true h = absurd (h refl)
 false_of false h = refl
 
 -- the point meets each condition
-pub record Lies (region : Region) (p : Point) : Type 0 where
+pub record Lies (region : PointRegion) (p : Point) : Type 0 where
   pub kind : is_one_of region.kinds p.kind ≡ true
   pub key : has_byte region.keys p.key ≡ true
   pub initiator : has_byte region.initiators p.initiator ≡ true
@@ -31,7 +31,7 @@ pub record Lies (region : Region) (p : Point) : Type 0 where
   pub first : lies_on region.first p.first ≡ true
   pub last : lies_on region.last p.last ≡ true
 
-pub lies : (region : Region) (p : Point) → lies_in region p ≡ true → Lies region p
+pub lies : (region : PointRegion) (p : Point) → lies_in region p ≡ true → Lies region p
 lies region p e =
     let k = parts (is_one_of region.kinds p.kind) _ e in
     let l = parts (has_byte region.keys p.key) _ k.1 in
@@ -50,7 +50,7 @@ lies region p e =
       last = joined (nat_le region.last.start p.last) (nat_lt p.last region.last.end) i.0 j.0;
     }
 
-pub lies_back : (region : Region) (p : Point) → Lies region p → lies_in region p ≡ true
+pub lies_back : (region : PointRegion) (p : Point) → Lies region p → lies_in region p ≡ true
 lies_back region p l =
     let f = parts (nat_le region.first.start p.first) (nat_lt p.first region.first.end) l.first in
     let g = parts (nat_le region.last.start p.last) (nat_lt p.last region.last.end) l.last in
@@ -63,7 +63,7 @@ lies_back region p l =
     (joined (nat_le region.last.start p.last) _ g.0
     (joined (nat_lt p.last region.last.end) true g.1 refl)))))))
 
-pub bare_by : (region : Region) → ((p : Point) → HasCommand p → Lies region p → ⊥) → IsBare region
+pub bare_by : (region : PointRegion) → ((p : Point) → HasCommand p → Lies region p → ⊥) → IsBare region
 bare_by region h p has = false_of (lies_in region p) (λ e. h p has (lies region p e))
 
 -- an address on a stretch
@@ -88,7 +88,7 @@ on_back stretch address le lt = joined (nat_le stretch.start address) (nat_lt ad
     below a b t = grind (arith, nat_tests)
 
 -- a condition beside those of a region, and then `n` more, are one more than `n`
-pub met_more : (region inside result shape : Region) (p : Point) (n left : ℕ) (side : Side) → left ≡ suc n → side ≡ side_of left → lies_in inside p ≡ (lies_in region p && meets side shape p)
+pub met_more : (region inside result shape : PointRegion) (p : Point) (n left : ℕ) (side : Side) → left ≡ suc n → side ≡ side_of left → lies_in inside p ≡ (lies_in region p && meets side shape p)
     → lies_in result p ≡ (lies_in inside p && meets_last n shape p) → lies_in result p ≡ (lies_in region p && meets_last left shape p)
 met_more region inside result shape p n left side one own e f =
     subst (λ (k : ℕ). lies_in result p ≡ (lies_in region p && meets_last k shape p)) (sym one)

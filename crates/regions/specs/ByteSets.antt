@@ -22,7 +22,7 @@ abbrev pub has_byte : ByteSet → ℕ → Bool
 has_byte set byte = has_bit (half_of set.low set.high byte) (byte % 128)
 
 -- a byte is one of a set, and none below it is
-pub record IsLeast (set : ByteSet) (byte : ℕ) : Type 0 where
+pub record IsLeastByte (set : ByteSet) (byte : ℕ) : Type 0 where
   pub has : has_byte set byte ≡ true
   pub below : (other : ℕ) → other < byte → has_byte set other ≡ false
 

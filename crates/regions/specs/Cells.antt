@@ -5,7 +5,7 @@ use Rattle.regions.specs.Questions.{AreTestedAlike}
 use Rattle.regions.specs.Regions.{lies_in}
 use Rattle.regions.specs.declared.cutting.Cell.{Cell}
 use Rattle.regions.specs.declared.points.Point.{Point}
-use Rattle.regions.specs.declared.regions.Region.{Region}
+use Rattle.regions.specs.declared.regions.PointRegion.{PointRegion}
 
 -- the cells in which a point lies
 abbrev pub cells_at : List Cell → Point → List Cell
@@ -31,7 +31,7 @@ IsFiledIf true tests holds fails old new p = IsFiledAt tests holds fails old new
 IsFiledIf false tests holds fails old new p = cells_at new p ≡ cells_at old p
 
 -- the cells of a region are appended to some
-abbrev pub IsFilled : List (Point → Bool) → (holds fails : Point → Type 0) → Region → (old new : List Cell) → Type 0
+abbrev pub IsFilled : List (Point → Bool) → (holds fails : Point → Type 0) → PointRegion → (old new : List Cell) → Type 0
 IsFilled tests holds fails region old new = (p : Point) → HasCommand p → IsFiledIf (lies_in region p) tests holds fails old new p
 
 -- each point that a command has is one of only one cell, or of none, and then the answer there is yes

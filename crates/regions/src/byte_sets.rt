@@ -1,7 +1,7 @@
 //! Sets of bytes.
 
 ghost use Rattle.std.specs.Prelude.{◌≡◌, ◌<◌, ◌==◌, ◌^◌, ◌&&◌, ◌||◌, ℕ, MatchBool, MatchOption, false, not, true};
-ghost use Rattle.regions.specs.ByteSets.{HasEachByte, HaveNoByte, IsLeast, IsLowest, are_same_bytes, has_bit, has_byte};
+ghost use Rattle.regions.specs.ByteSets.{HasEachByte, HaveNoByte, IsLeastByte, IsLowest, are_same_bytes, has_bit, has_byte};
 
 /// How many bits a half has.
 const HALF: u8 = 128;
@@ -125,7 +125,7 @@ impl ByteSet {
     /// The least of them.
     pub fn first(&self) -> Option<u8>
         ensures { MatchOption result ((byte : ℕ) → byte < 256 → has_byte self.now byte ≡ false)
-            (IsLeast self.now) }
+            (IsLeastByte self.now) }
     {
         match lowest(self.low) {
             Some(place) => Some(place),

@@ -5,8 +5,8 @@ ghost use Rattle.regions.specs.Cells.{AreCellsOf, IsFilled};
 ghost use Rattle.regions.specs.Questions.{IsCutBy, IsSettledBy, IsUnderWay};
 
 use crate::points::Point;
-use crate::questions::Question;
-use crate::regions::Region;
+use crate::questions::PointQuestion;
+use crate::regions::PointRegion;
 use crate::sides::{SIDES, side_of};
 use std::alloc::{AllocError, Global};
 
@@ -14,7 +14,7 @@ use std::alloc::{AllocError, Global};
 #[derive(Clone, Copy, Debug, PartialEq, Eq)]
 pub struct Cell {
     /// The region.
-    pub region: Region,
+    pub region: PointRegion,
     /// The point.
     pub point: Point,
 }
@@ -23,11 +23,11 @@ pub struct Cell {
 /// sides are left, the points meet the conditions of its shape, except the last `left` ones.
 ///
 /// It calls itself as deep as [`search`](crate::search) does.
-fn fill_from<Q: Question>(
+fn fill_from<Q: PointQuestion>(
     question: &Q,
-    region: &Region,
+    region: &PointRegion,
     number: usize,
-    shape: &Region,
+    shape: &PointRegion,
     left: u8,
     cells: &mut Vec<Cell>,
 ) -> Result<(), AllocError>
@@ -87,13 +87,13 @@ fn fill_from<Q: Question>(
 /// # Errors
 ///
 /// Only if memory is refused.
-pub fn cells<Q: Question>(alloc: Global, question: &Q) -> Result<Vec<Cell>, AllocError>
+pub fn cells<Q: PointQuestion>(alloc: Global, question: &Q) -> Result<Vec<Cell>, AllocError>
     requires few { length (Q.tests question.now) < 2 ^ 64 }
     requires settled { IsSettledBy (Q.tests question.now) (Q.holds question.now) }
     ensures { IfOk result (λ cells. AreCellsOf (Q.tests question.now) (Q.holds question.now)
         (Q.fails question.now) cells.items) }
 {
-    let whole = Region::whole();
+    let whole = PointRegion::whole();
     let mut cells = Vec::new(alloc);
     fill_from(question, &whole, 0, &whole, 0, &mut cells)?;
     Ok(cells)

@@ -1,9 +1,9 @@
 //! The commands that a node may bring to its policy table, as points, and regions of them.
 //!
-//! A [`Point`] is the part of a command that a rule looks at. A [`Region`] is a product of sets, one a field. It is
+//! A [`Point`] is the part of a command that a rule looks at. A [`PointRegion`] is a product of sets, one a field. It is
 //! [cut](Region::cut) by a side of another, and gives one of its [points](Region::witness), if a command has one.
 //!
-//! [`search`] cuts all commands by the regions of which a [`Question`] speaks, until one point answers it for all of a
+//! [`search`] cuts all commands by the regions of which a [`PointQuestion`] speaks, until one point answers it for all of a
 //! region. [`cells`] gives all regions that are left then, and at which the answer is no.
 #![tactic(auto)]
 
@@ -19,7 +19,7 @@ mod stretches;
 pub use byte_sets::ByteSet;
 pub use cutting::{Cell, cells};
 pub use points::Point;
-pub use questions::{Question, search, search_in};
-pub use regions::{Kinds, Region};
+pub use questions::{PointQuestion, search, search_in};
+pub use regions::{Kinds, PointRegion};
 pub use sides::Side;
 pub use stretches::Stretch;

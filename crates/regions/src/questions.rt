@@ -3,14 +3,14 @@
 ghost use Rattle.std.specs.Prelude.{◌≡◌, ◌≤◌, ◌<◌, ◌^◌, Bool, List, MatchBool, MatchOption, length};
 ghost use Rattle.regions.specs.Questions.{HoldsAll, HoldsOn, HoldsWhere, IsCutBy, IsFound, IsSettledBy, IsShapeAt, IsUnderWay};
 ghost use Rattle.regions.specs.declared.points.Point.{Point};
-ghost use Rattle.regions.specs.declared.regions.Region.{Region};
+ghost use Rattle.regions.specs.declared.regions.PointRegion.{PointRegion};
 
 use crate::points::Point;
-use crate::regions::Region;
+use crate::regions::PointRegion;
 use crate::sides::{SIDES, side_of};
 
 /// A question on a point, whose answer is the same at all points at which some tests have the same outcomes.
-pub trait Question {
+pub trait PointQuestion {
     /// The tests that settle it.
     ghost tests: { Self → List (Point → Bool) };
 
@@ -21,7 +21,7 @@ pub trait Question {
     ghost fails: { Self → Point → Type 0 };
 
     /// The points at which the test of that number, from 0 on, has the outcome true.
-    fn shape(&self, number: usize) -> Option<Region>
+    fn shape(&self, number: usize) -> Option<PointRegion>
         ensures { MatchOption result (length (tests self.now) ≤ number)
             (IsShapeAt (tests self.now) number) };
 
@@ -46,11 +46,11 @@ pub trait Question {
 /// Kinds have two edges. The shapes of rules and of the lines of their chart separate what the rules do. A rule adds at
 /// most seven edges: one for each of its three bytes, and its first and its last address in either stretch. Two tables
 /// have at most 24 rules, so 170 edges.
-fn search_from<Q: Question>(
+fn search_from<Q: PointQuestion>(
     question: &Q,
-    region: &Region,
+    region: &PointRegion,
     number: usize,
-    shape: &Region,
+    shape: &PointRegion,
     left: u8,
 ) -> Option<Point>
     requires few { length (Q.tests question.now) < 2 ^ 64 }
@@ -110,7 +110,7 @@ fn search_from<Q: Question>(
 }
 
 /// A point of a region that a command has and at which the answer is no, or `None` if it is yes at each.
-pub fn search_in<Q: Question>(question: &Q, region: &Region) -> Option<Point>
+pub fn search_in<Q: PointQuestion>(question: &Q, region: &PointRegion) -> Option<Point>
     requires few { length (Q.tests question.now) < 2 ^ 64 }
     requires settled { IsSettledBy (Q.tests question.now) (Q.holds question.now) }
     ensures { MatchOption result (HoldsOn (Q.holds question.now) region.now)
@@ -120,12 +120,12 @@ pub fn search_in<Q: Question>(question: &Q, region: &Region) -> Option<Point>
 }
 
 /// A point that a command has at which the answer is no, or `None` if it is yes at each.
-pub fn search<Q: Question>(question: &Q) -> Option<Point>
+pub fn search<Q: PointQuestion>(question: &Q) -> Option<Point>
     requires few { length (Q.tests question.now) < 2 ^ 64 }
     requires settled { IsSettledBy (Q.tests question.now) (Q.holds question.now) }
     ensures { MatchOption result (HoldsAll (Q.holds question.now))
         (IsFound (Q.fails question.now)) }
 {
-    let whole = Region::whole();
+    let whole = PointRegion::whole();
     search_from(question, &whole, 0, &whole, 0)
 }

@@ -3,7 +3,7 @@
 ghost use Rattle.std.specs.Prelude.{◌≡◌, ◌≤◌, ◌&&◌, MatchBool, MatchOption, not, true};
 ghost use Rattle.rmap.specs.declared.kind.Kind.{Kind};
 ghost use Rattle.regions.specs.Points.{HasCommand};
-ghost use Rattle.regions.specs.Regions.{AreApart, AreCut, HasEachKind, IsBare, IsIn, LiesWithin, are_same_kinds, is_one_of, is_same, lies_in, meets, meets_last};
+ghost use Rattle.regions.specs.Regions.{AreApart, AreCut, HasEachKind, IsBare, IsCommandIn, LiesWithin, are_same_kinds, is_one_of, is_same, lies_in, meets, meets_last};
 ghost use Rattle.regions.specs.declared.points.Point.{Point};
 
 use crate::byte_sets::ByteSet;
@@ -87,7 +87,7 @@ impl Kinds {
 
 /// The points whose fields are each one of a set.
 #[derive(Clone, Copy, Debug, PartialEq, Eq)]
-pub struct Region {
+pub struct PointRegion {
     /// What the commands ask for.
     pub kinds: Kinds,
     /// Their keys.
@@ -102,16 +102,16 @@ pub struct Region {
     pub last: Stretch,
 }
 
-impl Region {
+impl PointRegion {
     /// All points that a command has.
-    pub fn whole() -> Region
+    pub fn whole() -> PointRegion
         ensures { (p : Point) → HasCommand p → lies_in result p ≡ true }
     {
         let addresses = Stretch {
             start: 0,
             end: 1 << 32,
         };
-        Region {
+        PointRegion {
             kinds: Kinds {
                 read: true,
                 write: true,
@@ -126,7 +126,7 @@ impl Region {
     }
 
     /// The points that meet the condition of a side of another region.
-    fn inside(self, shape: &Region, side: Side) -> Region
+    fn inside(self, shape: &PointRegion, side: Side) -> PointRegion
         ensures { (p : Point) → HasCommand p → lies_in result p
             ≡ (lies_in self p && meets side shape.now p) }
     {
@@ -145,7 +145,7 @@ impl Region {
     }
 
     /// The points that do not.
-    fn outside(self, shape: &Region, side: Side) -> Region
+    fn outside(self, shape: &PointRegion, side: Side) -> PointRegion
         ensures { (p : Point) → HasCommand p → lies_in result p
             ≡ (lies_in self p && not (meets side shape.now p)) }
     {
@@ -178,14 +178,14 @@ impl Region {
     }
 
     /// Cuts the region by a side of another: the points that meet its condition, and those that do not.
-    pub fn cut(&self, shape: &Region, side: Side) -> (Region, Region)
+    pub fn cut(&self, shape: &PointRegion, side: Side) -> (PointRegion, PointRegion)
         ensures { AreCut self.now shape.now side result.0 result.1 }
     {
         (self.inside(shape, side), self.outside(shape, side))
     }
 
     /// The points that meet the conditions of the last `left` sides of another region.
-    fn met(self, shape: &Region, left: u8) -> Region
+    fn met(self, shape: &PointRegion, left: u8) -> PointRegion
         requires { left ≤ SIDES }
         ensures { (p : Point) → HasCommand p → lies_in result p
             ≡ (lies_in self p && meets_last left shape.now p) }
@@ -197,7 +197,7 @@ impl Region {
     }
 
     /// The points that lie in both regions.
-    pub fn both(&self, other: &Region) -> Region
+    pub fn both(&self, other: &PointRegion) -> PointRegion
         ensures { (p : Point) → HasCommand p → lies_in result p
             ≡ (lies_in self.now p && lies_in other.now p) }
     {
@@ -206,7 +206,7 @@ impl Region {
 
     /// Whether the values of a field that lie in both regions are none.
     #[tactic(auto, using(crate::proofs::Apart::by_keys, crate::proofs::Apart::by_initiators, crate::proofs::Apart::by_extended, crate::proofs::Apart::by_first, crate::proofs::Apart::by_last))]
-    fn is_apart(&self, other: &Region) -> bool
+    fn is_apart(&self, other: &PointRegion) -> bool
         ensures { MatchBool result (AreApart self.now other.now) (Unit {0}) }
     {
         if !self.keys.may_meet(&other.keys) {
@@ -226,7 +226,7 @@ impl Region {
 
     /// Whether the values of each field that lie in the region lie in the other too. Then so do its points.
     #[tactic(auto, using(crate::proofs::Within::within))]
-    pub fn is_within(&self, other: &Region) -> bool
+    pub fn is_within(&self, other: &PointRegion) -> bool
         ensures { MatchBool result (LiesWithin self.now other.now) (Unit {0}) }
     {
         if !self.first.is_within(other.first) {
@@ -248,7 +248,7 @@ impl Region {
     }
 
     /// Whether a command may have a point that lies in both regions.
-    pub(crate) fn may_meet(&self, other: &Region) -> bool
+    pub(crate) fn may_meet(&self, other: &PointRegion) -> bool
         ensures { MatchBool result (Unit {0}) (AreApart self.now other.now) }
     {
         if self.is_apart(other) {
@@ -259,7 +259,7 @@ impl Region {
 
     /// A point of the region that a command has.
     pub fn witness(&self) -> Option<Point>
-        ensures { MatchOption result (IsBare self.now) (IsIn self.now) }
+        ensures { MatchOption result (IsBare self.now) (IsCommandIn self.now) }
     {
         let Some(key) = self.keys.first() else {
             return None;

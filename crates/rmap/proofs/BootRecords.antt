@@ -9,7 +9,7 @@ use Rattle.rmap.specs.BootRecords.{AreReadAs, control_bytes, control_of, load_re
 
 -- the two bytes of a length are read as that length
 control_back : (control : ControlData) → control.length < 65536 → AreReadAs control (control_bytes control)
-control_back control few behind =
+control_back control few following =
     let count : control.length / 256 % 256 * 256 + control.length % 256 ≡ control.length = omega (arith, few) in
     let made : ℕ → ControlData = λ l. record { slot = control.slot; zero = control.zero; length = l } in
     ap made count

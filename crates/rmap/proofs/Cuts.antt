@@ -88,15 +88,15 @@ is_header bytes n c cut count protocol type crc =
 pub cut_of : (bytes : List ℕ) (c : CommandValue) → IsCommand bytes c → IsCut bytes (length c.reply_address) c
 cut_of bytes c h =
     let whole : bytes ≡ c.front ++ (c.reply_address ++ (c.tail ++ c.body)) = h.parts ∙ append_assoc (c.front ++ c.reply_address) c.tail c.body ∙ append_assoc c.front c.reply_address (c.tail ++ c.body) in
-    let behind_front : drop 4 bytes ≡ c.reply_address ++ (c.tail ++ c.body) = rw whole (drop_at c.front (c.reply_address ++ (c.tail ++ c.body)) 4 h.header.front) in
-    let behind_path : drop (length c.reply_address) (drop 4 bytes) ≡ c.tail ++ c.body = rw behind_front (drop_at c.reply_address (c.tail ++ c.body) (length c.reply_address) refl) in
+    let after_front : drop 4 bytes ≡ c.reply_address ++ (c.tail ++ c.body) = rw whole (drop_at c.front (c.reply_address ++ (c.tail ++ c.body)) 4 h.header.front) in
+    let after_address : drop (length c.reply_address) (drop 4 bytes) ≡ c.tail ++ c.body = rw after_front (drop_at c.reply_address (c.tail ++ c.body) (length c.reply_address) refl) in
     let front : length c.front ≡ 4 = h.header.front in
     let tail : length c.tail ≡ 12 = h.header.tail in
     record {
       front = rw whole (sym (take_at c.front (c.reply_address ++ (c.tail ++ c.body)) 4 front));
-      reply_address = rw behind_front (sym (take_at c.reply_address (c.tail ++ c.body) (length c.reply_address) refl));
-      tail = rw behind_path (sym (take_at c.tail c.body 12 tail));
-      body = rw behind_path (sym (drop_at c.tail c.body 12 tail));
+      reply_address = rw after_front (sym (take_at c.reply_address (c.tail ++ c.body) (length c.reply_address) refl));
+      tail = rw after_address (sym (take_at c.tail c.body 12 tail));
+      body = rw after_address (sym (drop_at c.tail c.body 12 tail));
       long = rw whole (omega (arith, length-append c.front (c.reply_address ++ (c.tail ++ c.body)), length-append c.reply_address (c.tail ++ c.body), length-append c.tail c.body));
     }
 

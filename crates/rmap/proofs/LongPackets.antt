@@ -33,8 +33,8 @@ front_of bytes k few = take-take k 4200 bytes few
 part_of : (bytes : List ℕ) (place count : ℕ) → place + count ≤ 4200 → take count (drop place (take 4200 bytes)) ≡ take count (drop place bytes)
 part_of bytes place count few =
     let rest : 4200 ≡ place + (4200 - place) = omega (arith, few) in
-    let behind : drop place (take 4200 bytes) ≡ take (4200 - place) (drop place bytes) = ap (λ n. drop place (take n bytes)) rest ∙ drop-take place (4200 - place) bytes in
-    rw behind (take-take count (4200 - place) (drop place bytes) (omega (arith, few)))
+    let following : drop place (take 4200 bytes) ≡ take (4200 - place) (drop place bytes) = ap (λ n. drop place (take n bytes)) rest ∙ drop-take place (4200 - place) bytes in
+    rw following (take-take count (4200 - place) (drop place bytes) (omega (arith, few)))
 
 path_of : (bytes : List ℕ) → path_length (take 4200 bytes) ≡ path_length bytes
 path_of bytes = ap (λ byte. 4 * (byte % 4)) (byte_of bytes 2 (omega arith))
@@ -87,16 +87,16 @@ module _ (f t r u b d : List ℕ) (e : End) where
   same_miss None = refl
   same_miss (Some bank) = refl
 
-  same_checks_behind : (w : WindowsValue) → header_check (of_parts f r t b e) w ≡ header_check (of_parts f u t d e) w
+  same_checks_after : (w : WindowsValue) → header_check (of_parts f r t b e) w ≡ header_check (of_parts f u t d e) w
   unfolding of_parts
-  same_checks_behind w =
+  same_checks_after w =
       let place = same_place (slice_get w.banks (get_or t 3 0)) in
       let miss = same_miss (slice_get w.banks (get_or t 3 0)) in
       rw (place, miss) refl
 
 same_checks : (f g s t r u b d : List ℕ) (e : End) (w : WindowsValue) → f ≡ g → s ≡ t
     → header_check (of_parts f r s b e) w ≡ header_check (of_parts g u t d e) w
-same_checks f g s t r u b d e w front tail = rw (front, tail) (same_checks_behind g t r u b d e w)
+same_checks f g s t r u b d e w front tail = rw (front, tail) (same_checks_after g t r u b d e w)
 
 checks : (p : Cargo) (w : WindowsValue) → header_check (command_of (cut_to_longest p)) w ≡ header_check (command_of p) w
 unfolding of_parts

@@ -6,7 +6,7 @@ use Rattle.std.proofs.lemmas.Bool.Decides.{nat_tests}
 use Rattle.rmap.specs.declared.kind.Kind.{Kind}
 use Rattle.rmap.specs.declared.kind.Kind.TheVariants.{Read, Write, Rmw, Unused}
 use Rattle.rmap.specs.Instruction.{has_increment_bit, kind_of}
-use Rattle.rmap.specs.Laws.{MasksTellKinds}
+use Rattle.rmap.specs.Laws.{MasksGiveKinds}
 
 -- whether two kinds are the same
 abbrev same_kind : Kind → Kind → Bool
@@ -57,8 +57,8 @@ equal_is a b e = grind (arith, nat_tests)
 equal_self : (a b : ℕ) → a ≡ b → (a == b) ≡ true
 equal_self a b e = grind (arith, nat_tests)
 
-told : (kind : Kind) (byte mask bits : ℕ) → (bit_and byte mask == bits) ≡ same_kind kind (kind_of byte) → (bit_and byte mask ≡ bits) ↔ (kind_of byte ≡ kind)
-told kind byte mask bits agree = (
+reported : (kind : Kind) (byte mask bits : ℕ) → (bit_and byte mask == bits) ≡ same_kind kind (kind_of byte) → (bit_and byte mask ≡ bits) ↔ (kind_of byte ≡ kind)
+reported kind byte mask bits agree = (
   (λ is. same_is kind (kind_of byte) (sym agree ∙ equal_self (bit_and byte mask) bits is)),
   (λ is. equal_is (bit_and byte mask) bits (agree ∙ ap (same_kind kind) is ∙ same_self kind)),
 )
@@ -67,16 +67,16 @@ not_true : (b : Bool) → not b ≡ true → b ≡ false
 not_true false e = refl
 not_true true e = absurd cc
 
-increment_told : (byte mask : ℕ) → (bit_and byte mask == 0) ≡ not (has_increment_bit byte) → (bit_and byte mask ≡ 0) ↔ (has_increment_bit byte ≡ false)
-increment_told byte mask agree = (
+increment_given : (byte mask : ℕ) → (bit_and byte mask == 0) ≡ not (has_increment_bit byte) → (bit_and byte mask ≡ 0) ↔ (has_increment_bit byte ≡ false)
+increment_given byte mask agree = (
   (λ is. not_true (has_increment_bit byte) (sym agree ∙ equal_self (bit_and byte mask) 0 is)),
   (λ is. equal_is (bit_and byte mask) 0 (agree ∙ ap not is)),
 )
 
-pub masks_tell : MasksTellKinds
-masks_tell = record {
-  read = λ byte below. told Read byte 248 72 (agree_below_at (λ b. bit_and b 248 == 72) (λ b. same_kind Read (kind_of b)) 256 byte refl below);
-  write = λ byte below. told Write byte 224 96 (agree_below_at (λ b. bit_and b 224 == 96) (λ b. same_kind Write (kind_of b)) 256 byte refl below);
-  rmw = λ byte below. told Rmw byte 252 92 (agree_below_at (λ b. bit_and b 252 == 92) (λ b. same_kind Rmw (kind_of b)) 256 byte refl below);
-  increment = λ byte below. increment_told byte 4 (agree_below_at (λ b. bit_and b 4 == 0) (λ b. not (has_increment_bit b)) 256 byte refl below);
+pub masks_give : MasksGiveKinds
+masks_give = record {
+  read = λ byte below. reported Read byte 248 72 (agree_below_at (λ b. bit_and b 248 == 72) (λ b. same_kind Read (kind_of b)) 256 byte refl below);
+  write = λ byte below. reported Write byte 224 96 (agree_below_at (λ b. bit_and b 224 == 96) (λ b. same_kind Write (kind_of b)) 256 byte refl below);
+  rmw = λ byte below. reported Rmw byte 252 92 (agree_below_at (λ b. bit_and b 252 == 92) (λ b. same_kind Rmw (kind_of b)) 256 byte refl below);
+  increment = λ byte below. increment_given byte 4 (agree_below_at (λ b. bit_and b 4 == 0) (λ b. not (has_increment_bit b)) 256 byte refl below);
 }

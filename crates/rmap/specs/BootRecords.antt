@@ -20,7 +20,7 @@ control_bytes control = (control.slot ∷ control.zero ∷ []) ++ big_bytes 2 co
 
 -- the bytes are read as this control write, whatever follows them
 abbrev pub AreReadAs : ControlData → List ℕ → Type 0
-AreReadAs control bytes = (behind : List ℕ) → control_of (bytes ++ behind) ≡ control
+AreReadAs control bytes = (following : List ℕ) → control_of (bytes ++ following) ≡ control
 
 -- a load result: its code, a zero byte, its place in two bytes, and its generation in four
 abbrev pub load_result_bytes : LoadResult → List ℕ

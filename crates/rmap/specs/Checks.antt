@@ -7,13 +7,13 @@ use Rattle.rcrc.specs.Crc.{crc_of}
 use Rattle.spw.specs.declared.packets.End.{End}
 use Rattle.spw.specs.declared.packets.End.TheVariants.{Eop, Eep}
 use Rattle.rmap.specs.declared.body_faults.BodyFault.{BodyFault}
-use Rattle.rmap.specs.declared.body_faults.BodyFault.TheVariants.{ErrorEnd, TooFewBytes, TooManyBytes as TooManyBehind, WrongDataCrc}
+use Rattle.rmap.specs.declared.body_faults.BodyFault.TheVariants.{ErrorEnd, TooFewBytes, TooManyBytes as TooManyAfter, WrongDataCrc}
 use Rattle.rmap.specs.declared.boot.TheConstants.{BOOT_WINDOW, LOAD_REGISTER, LOAD_RESULT_SIZE}
 use Rattle.rmap.specs.declared.checks.TheConstants.{MAX_DATA, VERIFY_BUFFER}
 use Rattle.rmap.specs.declared.header_faults.HeaderFault.{HeaderFault}
 use Rattle.rmap.specs.declared.header_faults.HeaderFault.TheVariants as faults
 use Rattle.rmap.specs.declared.header_faults.NoPlace.{NoPlace}
-use Rattle.rmap.specs.declared.header_faults.NoPlace.TheVariants.{NoBank, OutsideBank, BehindBank, OtherAtRegister, OutsideBootWindow}
+use Rattle.rmap.specs.declared.header_faults.NoPlace.TheVariants.{NoBank, OutsideBank, AfterBank, OtherAtRegister, OutsideBootWindow}
 use Rattle.rmap.specs.declared.kind.Kind.{Kind}
 use Rattle.rmap.specs.declared.kind.Kind.TheVariants.{Read, Write, Rmw, Unused}
 use Rattle.rmap.specs.declared.places.Place.{Place}
@@ -50,7 +50,7 @@ miss_in None c =
     else OutsideBootWindow (address_of c) (length_of c)
 miss_in (Some bank) c =
     if increments c && begins_inside bank.0 bank.1 c
-    then BehindBank (address_of c) (length_of c)
+    then AfterBank (address_of c) (length_of c)
     else OutsideBank (address_of c)
 
 -- why bytes that have no place have none
@@ -115,7 +115,7 @@ has_wrong_data_crc c =
 abbrev pub content_check : CommandValue → Option BodyFault
 content_check c =
     if nat_lt (length c.body) (wanted_length c) then Some (TooFewBytes (length c.body) (wanted_length c))
-    else if nat_lt (wanted_length c) (length c.body) then Some (TooManyBehind (length c.body) (wanted_length c))
+    else if nat_lt (wanted_length c) (length c.body) then Some (TooManyAfter (length c.body) (wanted_length c))
     else if has_wrong_data_crc c then Some (WrongDataCrc (slice_index c.body (length_of c)) (crc_of (data_of c)))
     else None
 
@@ -132,7 +132,7 @@ body_check c = body_check_at c.end c
 abbrev pub body_status : BodyFault → Status
 body_status ErrorEnd = ErrorEndOfPacket
 body_status (TooFewBytes found wanted) = EarlyEndOfPacket
-body_status (TooManyBehind found wanted) = TooMuchData
+body_status (TooManyAfter found wanted) = TooMuchData
 body_status (WrongDataCrc found right) = InvalidDataCrc
 
 -- the status of the first check of the body that stops the command, by how the packet ended

@@ -48,7 +48,7 @@ CommandsAreLaidOut =
 
 -- An instruction byte is of a kind if and only if, under the kind's mask, it is the kind's bits. It has no increment
 -- if and only if it is 0 under the increment bit (ECSS-E-ST-50-52C, instruction field).
-pub record MasksTellKinds : Type 0 where
+pub record MasksGiveKinds : Type 0 where
   pub read : (byte : ℕ) → byte < 256 → (bit_and byte READ_MASK ≡ READ_BITS) ↔ (kind_of byte ≡ Read)
   pub write : (byte : ℕ) → byte < 256 → (bit_and byte WRITE_MASK ≡ WRITE_BITS) ↔ (kind_of byte ≡ Write)
   pub rmw : (byte : ℕ) → byte < 256 → (bit_and byte RMW_MASK ≡ RMW_BITS) ↔ (kind_of byte ≡ Rmw)

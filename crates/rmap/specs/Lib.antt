@@ -2,7 +2,7 @@ pub mod Codes
 pub mod Verdict
 pub mod Instruction
 pub mod Command
-pub mod Flaws
+pub mod DiscardFaults
 pub mod Windows
 pub mod Checks
 pub mod Reply

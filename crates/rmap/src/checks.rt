@@ -73,7 +73,7 @@ fn miss(command: &Command, windows: &Windows) -> NoPlace
     let length = command.length();
     match windows.bank(extended) {
         Some((base, size)) if command.increments() && begins_inside(command, base, size) => {
-            NoPlace::BehindBank { address, length }
+            NoPlace::AfterBank { address, length }
         }
         Some(_) => NoPlace::OutsideBank { address },
         None if extended != BOOT_WINDOW => NoPlace::NoBank { extended },

@@ -2,7 +2,7 @@
 
 ghost use Rattle.std.specs.Prelude.{◌≡◌, Some, IfSome};
 ghost use Rattle.rmap.specs.Codes.{discard_code, discard_of_code};
-ghost use Rattle.rmap.specs.Flaws.{flaw_of};
+ghost use Rattle.rmap.specs.DiscardFaults.{discard_fault_of};
 ghost use Rattle.rmap.specs.Command.{IsDiscarded};
 
 use crate::field;
@@ -86,7 +86,7 @@ impl Discard {
 
 /// What was found in a packet that is discarded: [`Discard`], with the bytes that are wrong and the right ones.
 #[derive(Clone, Copy, Debug, PartialEq, Eq)]
-pub enum Flaw {
+pub enum DiscardFault {
     /// Fewer bytes than the header has.
     TooShort,
     /// Another protocol identifier than that of RMAP.
@@ -105,29 +105,29 @@ pub enum Flaw {
     },
 }
 
-impl Flaw {
+impl DiscardFault {
     /// What was found in these bytes. The condition is that the target discards them for that reason.
-    pub fn of(bytes: &[u8], reason: Discard) -> Flaw
+    pub fn of(bytes: &[u8], reason: Discard) -> DiscardFault
         requires { IsDiscarded bytes.now reason }
-        ensures { result ≡ flaw_of bytes.now reason }
+        ensures { result ≡ discard_fault_of bytes.now reason }
     {
         match reason {
-            Discard::Short => Flaw::TooShort,
-            Discard::Protocol => Flaw::OtherProtocol {
+            Discard::Short => DiscardFault::TooShort,
+            Discard::Protocol => DiscardFault::OtherProtocol {
                 found: bytes[field::PROTOCOL],
             },
-            Discard::Reply => Flaw::IsReply,
-            Discard::HeaderCrc => Flaw::wrong_crc(bytes),
+            Discard::Reply => DiscardFault::IsReply,
+            Discard::HeaderCrc => DiscardFault::wrong_crc(bytes),
         }
     }
 
-    fn wrong_crc(bytes: &[u8]) -> Flaw
+    fn wrong_crc(bytes: &[u8]) -> DiscardFault
         requires { IsDiscarded bytes.now Discard.HeaderCrc }
-        ensures { result ≡ flaw_of bytes.now Discard.HeaderCrc }
+        ensures { result ≡ discard_fault_of bytes.now Discard.HeaderCrc }
     {
         let address = Instruction(bytes[field::INSTRUCTION]).reply_address_len();
         let last = field::CHECKED + address;
-        Flaw::WrongHeaderCrc {
+        DiscardFault::WrongHeaderCrc {
             found: bytes[last],
             right: crc(&bytes[..last]),
         }

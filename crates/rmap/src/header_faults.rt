@@ -20,7 +20,7 @@ pub enum NoPlace {
         address: u32,
     },
     /// The address is in the bank, and with increment the last address is past its end.
-    BehindBank {
+    AfterBank {
         /// The first address.
         address: u32,
         /// How many bytes there are, with increment.

@@ -1,6 +1,6 @@
 //! Laws about commands and replies. Each function does nothing: its contract is the law.
 
-ghost use Rattle.rmap.specs.Laws.{CommandsAreKept, KeptAreCommands, CommandIsUnique, CommandsAreLaidOut, LongPacketIsCut, MasksTellKinds, RepliesAreShort};
+ghost use Rattle.rmap.specs.Laws.{CommandsAreKept, KeptAreCommands, CommandIsUnique, CommandsAreLaidOut, LongPacketIsCut, MasksGiveKinds, RepliesAreShort};
 
 /// A law and no work: bytes are discarded if and only if they are no command.
 pub fn discard_is_exact()
@@ -27,8 +27,8 @@ pub fn commands_are_laid_out()
 
 /// A law and no work: an instruction byte is of a kind if and only if, under the kind's mask, it is the kind's bits.
 /// It has no increment if and only if it is 0 under the increment bit (ECSS-E-ST-50-52C, instruction field).
-pub fn masks_tell_kinds()
-    ensures { MasksTellKinds }
+pub fn masks_give_kinds()
+    ensures { MasksGiveKinds }
 {}
 
 /// A law and no work: a packet with 4,200 bytes or more passes and fails the same checks as its first 4,200 bytes.

@@ -33,7 +33,7 @@ pub use checks::{
     header_fault, place,
 };
 pub use command::{Command, PROTOCOL};
-pub use discard::{Discard, Flaw};
+pub use discard::{Discard, DiscardFault};
 pub use header_faults::{HeaderFault, NoPlace};
 pub use instruction::{
     INCREMENT_BIT, Instruction, READ_BITS, READ_MASK, RMW_BITS, RMW_MASK, WRITE_BITS, WRITE_MASK,
@@ -41,7 +41,7 @@ pub use instruction::{
 pub use kind::Kind;
 pub use laws::{
     command_is_unique, commands_are_laid_out, discard_is_exact, long_packet_is_cut,
-    masks_tell_kinds, replies_are_short,
+    masks_give_kinds, replies_are_short,
 };
 pub use places::Place;
 pub use reply::{MAX_REPLY, ReplyBuf, put_reply};

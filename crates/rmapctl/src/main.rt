@@ -7,10 +7,10 @@ ghost use Rattle.clap.specs.Walk.{texts};
 ghost use Rattle.commands.specs.Driven.{EndsBy, link_words, talk_words};
 ghost use Rattle.commands.specs.Given.{words_given};
 ghost use Rattle.commands.specs.Refusals.{AreUnknown};
-ghost use Rattle.job_parts.specs.Statuses.{status_code, usage_status};
+ghost use Rattle.job_parts.specs.Statuses.{exit_code, usage_status};
 
 use commands::{
-    Desk, MachineDesk, Refusal, Status, Stream, UsageFault, argument_fault, do_words, stream_of,
+    Desk, MachineDesk, UsageText, ExitStatus, Stream, UsageFault, argument_fault, do_words, stream_of,
     usage_end,
 };
 use std::alloc::Global;
@@ -20,10 +20,10 @@ use std::process::ExitCode;
 use std::rt::Env;
 
 /// Prints why a command line asks for nothing, and gives how it ends.
-fn refuse<R: Print + Eprint>(rt: &R, fault: &UsageFault, stream: Stream) -> Status
-    ensures { status_code result ≡ usage_status fault.now }
+fn refuse<R: Print + Eprint>(rt: &R, fault: &UsageFault, stream: Stream) -> ExitStatus
+    ensures { exit_code result ≡ usage_status fault.now }
 {
-    let refusal = Refusal::of(fault);
+    let refusal = UsageText::of(fault);
     let _ = match stream {
         Stream::Output => rt.print(&refusal),
         Stream::Errors => rt.eprint(&refusal),
@@ -42,8 +42,8 @@ fn do_given<R: Print + Eprint, D: Desk + Drop>(
 ) -> u8
     requires { D.Server.shares }
     ensures { EndsBy D.words D.Errors
-        (talk_words D.Talk.came D.Talk.sent D.Talk.unsent D.Talk.missed) D.Server.serves
-        (link_words D.Link.came D.Link.sent D.Link.told D.Link.unread D.Link.unsent D.Link.untold D.Link.lost)
+        (talk_words D.Talk.received D.Talk.sent D.Talk.unsent D.Talk.missed) D.Server.serves
+        (link_words D.Link.received D.Link.sent D.Link.reported D.Link.unread D.Link.unsent D.Link.unreported D.Link.lost)
         (words_given (texts words.now)) desk result }
 {
     match do_words(alloc, desk, words, is_terminal) {

@@ -7,16 +7,16 @@ use Rattle.node_programs.specs.declared.publishes.Publish.{Publish}
 use Rattle.node_programs.specs.Laws.{IsSetByNext}
 use Rattle.bver.specs.Justified.{AcceptedValue}
 use Rattle.node_programs.specs.Published.{judging_from, judging_program}
-use Rattle.sched.specs.Agreement.{with_published, all_published, slot_and_program, ArePublishesOf, program_and_generation, PublishedAgrees}
+use Rattle.sched.specs.Agreement.{with_event_published, all_published, slot_and_program, ArePublishesOf, program_and_generation, PublishedAgrees}
 use Rattle.sched.specs.History.{History, Start, Then}
-use Rattle.sched.specs.Looking.{Node, counted, published_after, published_at, published_behind, published, publishes}
+use Rattle.sched.specs.Looking.{Node, counted_publish, published_after, published_at, published_after_count, published, publishes}
 
 -- as many as are counted
 counts : (n : Node) (h : History) → length (all_published n h) ≡ publishes n h
 counts n Start = refl
 counts n (Then h event outcome) = by (published_at n h event outcome) (counts n h)
   where
-    by : (made : Option (ℕ × Program)) → length (all_published n h) ≡ publishes n h → length (with_published made (all_published n h)) ≡ counted made (publishes n h)
+    by : (made : Option (ℕ × Program)) → length (all_published n h) ≡ publishes n h → length (with_event_published made (all_published n h)) ≡ counted_publish made (publishes n h)
     by None before = before
     by (Some next) before = length-append (all_published n h) (next ∷ []) ∙ ap (λ (k : ℕ). k + 1) before
 
@@ -47,7 +47,7 @@ has_last f (x ∷ xs) (z ∷ ys) y e =
 -- what a longer list says, if the shorter agrees
 agrees_longer : IsSetByNext → (n : Node) (h : History) (first : Publish) (front : List Publish) (last : Publish) (made : ℕ × Program) (slot : ℕ) → ArePublishesOf n h (first ∷ front) → slot_and_program last ≡ made
     → option_map program_and_generation (judging_program (first ∷ front) slot) ≡ Some (published n h slot)
-    → option_map program_and_generation (judging_program ((first ∷ front) ++ last ∷ []) slot) ≡ Some (published_behind (Some made) (publishes n h) slot (published n h slot))
+    → option_map program_and_generation (judging_program ((first ∷ front) ++ last ∷ []) slot) ≡ Some (published_after_count (Some made) (publishes n h) slot (published n h slot))
 agrees_longer law n h first front last made slot is same before =
     ap (option_map program_and_generation) (law (first ∷ front) last.slot last.program slot (omega arith)) ∙ by (last.slot == slot) ∙ ap (λ (x : ℕ × Program). Some (if x.0 == slot then (x.1, publishes n h + 1) else published n h slot)) same
   where
@@ -58,15 +58,15 @@ agrees_longer law n h first front last made slot is same before =
     by true = ap (λ (k : ℕ). Some (last.program.program, k)) long
     by false = before
 
-agrees_by : IsSetByNext → (n : Node) (h : History) (first : Publish) (rest : List Publish) (made : Option (ℕ × Program)) (slot : ℕ) → first.program.program ≡ n.factory → map slot_and_program rest ≡ with_published made (all_published n h)
+agrees_by : IsSetByNext → (n : Node) (h : History) (first : Publish) (rest : List Publish) (made : Option (ℕ × Program)) (slot : ℕ) → first.program.program ≡ n.factory → map slot_and_program rest ≡ with_event_published made (all_published n h)
     → ((publishes : List Publish) → ArePublishesOf n h publishes → option_map program_and_generation (judging_program publishes slot) ≡ Some (published n h slot))
-    → option_map program_and_generation (judging_program (first ∷ rest) slot) ≡ Some (published_behind made (publishes n h) slot (published n h slot))
+    → option_map program_and_generation (judging_program (first ∷ rest) slot) ≡ Some (published_after_count made (publishes n h) slot (published n h slot))
 agrees_by law n h first rest None slot factory is before = before (first ∷ rest) (factory, is)
 agrees_by law n h first rest (Some made) slot factory is before =
     let ends = has_last slot_and_program rest (all_published n h) made is in
     let shorter = before (first ∷ ends.front) (factory, ends.fronts) in
     let longer = agrees_longer law n h first ends.front ends.last made slot (factory, ends.fronts) ends.lasts shorter in
-    subst (λ (l : List Publish). option_map program_and_generation (judging_program (first ∷ l) slot) ≡ Some (published_behind (Some made) (publishes n h) slot (published n h slot))) (sym ends.parts) longer
+    subst (λ (l : List Publish). option_map program_and_generation (judging_program (first ∷ l) slot) ≡ Some (published_after_count (Some made) (publishes n h) slot (published n h slot))) (sym ends.parts) longer
 
 -- what judges after the factory program is what was published before the first event
 starts_from : (rest : List Publish) (count slot : ℕ) (best : AcceptedValue × ℕ)

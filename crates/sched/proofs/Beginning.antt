@@ -8,10 +8,10 @@ use Rattle.rmap.specs.Command.{command_kind, command_of}
 use Rattle.bver.specs.Justified.{AcceptedValue}
 use Rattle.bank.specs.Admission.{IsPlacedBy}
 use Rattle.node_parts.specs.Slots.{slot_of}
-use Rattle.sched.specs.Begins.{BeginsAs, IsBegun}
+use Rattle.sched.specs.BeginsHistory.{BeginsAs, IsBegun}
 use Rattle.sched.specs.History.{History, taken}
 use Rattle.sched.specs.Looking.{Node, slot_of_packet, published}
-use Rattle.sched.specs.Worlds.{RunValue, WorldValue, IsFor, IsRunOf, IsRunUnder, IsRunWith, IsShownAs, IsWorld, IsWorldOf}
+use Rattle.sched.specs.Worlds.{RunValue, WorldValue, IsFor, IsRunOfOpen, IsRunUnder, IsRunWith, IsShownAs, IsWorld, IsWorldOf}
 use Rattle.sched.proofs.Taking.{shown_there}
 
 -- a program that was read is what its slot shows
@@ -50,12 +50,12 @@ begin_generation old w packet place slot shown a r begins n h world =
 
 -- the run is that of the command that is taken
 begin_run : (old w : WorldValue) (port : ℕ) (packet : Cargo) (place : Place) (slot : ℕ) (shown : AcceptedValue × ℕ) (a : AcceptedValue) (r : RunValue) → IsBegin old w packet place slot shown a r
-    → BeginsAs port packet place a shown.1 r → (n : Node) (h : History) → IsWorldOf n h old → IsRunOf n port (taken packet r.generation h) r
+    → BeginsAs port packet place a shown.1 r → (n : Node) (h : History) → IsWorldOf n h old → IsRunOfOpen n port (taken packet r.generation h) r
 begin_run old w port packet place slot shown a r begins run n h world =
     let here = begin_shown old w packet place slot shown a r begins n h world in
     let placed = subst (λ windows. IsPlacedBy windows packet place) world.windows_are begins.placed in
     let accepted = subst (λ (v : AcceptedValue). IsFor n v) (sym begins.same) here.accepted in
-    subst (λ (generation : ℕ). IsRunOf n port (taken packet generation h) r) (sym begins.with.generation_is)
+    subst (λ (generation : ℕ). IsRunOfOpen n port (taken packet generation h) r) (sym begins.with.generation_is)
     (run n h placed (ap (λ (v : AcceptedValue). v.program) begins.same ∙ here.program) accepted)
 
 pub has_begun : (old w : WorldValue) (port : ℕ) (packet : Cargo) (place : Place) (slot : ℕ) (shown : AcceptedValue × ℕ) (a : AcceptedValue) (r : RunValue) → IsBegin old w packet place slot shown a r

@@ -24,13 +24,13 @@ use Rattle.sched.specs.declared.event.Outcome.TheVariants.{Refused, Done}
 use Rattle.sched.specs.Ends.{judged_with, share_in, with_share_in, EndsAt}
 use Rattle.sched.specs.History.{History, Then, Open, port_of, opened}
 use Rattle.sched.specs.Lawful.{bank_answer, staging_answer, load_result_answer, done, effect_at_place, effect_at_turn, effect_outcome}
-use Rattle.sched.specs.Looking.{Node, place_in, turn_of, verdict_at, staging, staged_at, staged_behind, entry_left, has_room, entered, entries_at, entries, first_memory, memory}
-use Rattle.sched.specs.Worlds.{RunValue, PortValue, WorldValue, AreBanksOf, GoesOn, IsBankOf, IsJudging, IsPortOf, IsRunOf, IsShareWith, effect_due, effect_due_at, verdict_of_turn}
+use Rattle.sched.specs.Looking.{Node, place_in, turn_of, verdict_at, staging, staged_at, staged_after, entry_left, has_entry_room, entered, entries_at, entries, first_memory, memory}
+use Rattle.sched.specs.Worlds.{RunValue, PortValue, WorldValue, AreBanksOf, GoesOnLawfully, IsBankOf, IsJudging, IsPortOf, IsRunOfOpen, IsShareWith, effect_due, effect_due_at, verdict_of_turn}
 use Rattle.sched.proofs.Outcomes.{then_lawful}
-use Rattle.sched.proofs.Growth.{IsPortBehind, OthersKeepCounts, at_written, ports_changed, left_all}
+use Rattle.sched.proofs.Growth.{IsPortAfter, OthersKeepCounts, at_written, ports_changed, left_all}
 use Rattle.lemmas.proofs.Places.{at_other}
 use Rattle.sched.proofs.Entering.{entries_done, numbers_same, numbers_other, entered_other, entered_memory}
-use Rattle.sched.proofs.Telling.{outcome_here}
+use Rattle.sched.proofs.Reporting.{outcome_here}
 
 -- ---- the open command
 
@@ -38,7 +38,7 @@ use Rattle.sched.proofs.Telling.{outcome_here}
 pub record IsOpenRun (n : Node) (h : History) (port : ℕ) (r : RunValue) : Type 0 where
   pub command : Open
   pub is_open : opened h port ≡ Some command
-  pub run : IsRunOf n port command r
+  pub run : IsRunOfOpen n port command r
 
 open_by : (n : Node) (h : History) (port : ℕ) (r : RunValue) (last : Option Open) → opened h port ≡ last → IsJudging n port last (Some r) → IsOpenRun n h port r
 open_by n h port r None is judging = absurd judging
@@ -51,7 +51,7 @@ open_run n h port p r s es is here =
 -- ---- at a bank
 
 -- there is room in a bank exactly if looking back finds it
-same_room : (n : Node) (k port : ℕ) (es : List EntryValue) (m : Memory) (b : BankValue) → port < n.ports → IsBankOf n k es m b → banks.has_room b port ≡ has_room (slice_get n.banks k) port es
+same_room : (n : Node) (k port : ℕ) (es : List EntryValue) (m : Memory) (b : BankValue) → port < n.ports → IsBankOf n k es m b → banks.has_room b port ≡ has_entry_room (slice_get n.banks k) port es
 same_room n k port es m b below is = rw (is.entries_are, is.room, is.counts port below) refl
 
 -- the answer of a bank is the one that looking back gives
@@ -110,7 +110,7 @@ bank_by n k port es m e b share judged true entry below is replayed = record {
 record IsAtBank (n : Node) (h : History) (port verdict k : ℕ) (p : PortValue) (r : RunValue) (o : Open) (b : BankValue) (status : Status) : Type 0 where
   below : port < n.ports
   is_open : opened h port ≡ Some o
-  run : IsRunOf n port o r
+  run : IsRunOfOpen n port o r
   lies : place_in n o.packet ≡ Some (places.Bank k)
   ended : verdict ≡ verdict_at (turn_of n port o)
   bank : IsBankOf n k (entries n h k) (memory n h k) b
@@ -133,16 +133,16 @@ entries_there n h port k j o status reply is lies apart =
     entries_done n h (Effect port) status reply None o (Some (places.Bank k)) is lies j
     ∙ ap (λ (own : Bool). if own then entered n (slice_get n.banks j) port o status (entries n h j) else entries n h j) apart
 
-bank_behind : (n : Node) (h : History) (port verdict k : ℕ) (p : PortValue) (r : RunValue) (o : Open) (b : BankValue) (status : Status) (reply : List ℕ) → IsAtBank n h port verdict k p r o b status
+bank_after : (n : Node) (h : History) (port verdict k : ℕ) (p : PortValue) (r : RunValue) (o : Open) (b : BankValue) (status : Status) (reply : List ℕ) → IsAtBank n h port verdict k p r o b status
     → IsBankOf n k (entries n (Then h (Effect port) (Done status reply None)) k) (memory n (Then h (Effect port) (Done status reply None)) k) (after_command b (share_in p k port) (judged_with port verdict r))
-bank_behind n h port verdict k p r o b status reply here =
+bank_after n h port verdict k p r o b status reply here =
     let judged = judged_with port verdict r in
     let share = share_in p k port in
     let bank = slice_get n.banks k in
     let es = entries n h k in
     let base = first_memory bank in
     let e = entry_left n port (length (numbers_of port es)) o status in
-    let room = has_room bank port es in
+    let room = has_entry_room bank port es in
     let same = same_room n k port es (memory n h k) b here.below here.bank in
     let answers = same_answer n h k port verdict o r b here.below here.run.packet here.bank in
     let entry : IsEntry n port b share judged es e = record {
@@ -151,18 +151,18 @@ bank_behind n h port verdict k p r o b status reply here =
       port_is = refl;
       next = here.next;
     } in
-    let told : status ≡ (answer (replay base es) room (command_of o.packet) verdict).status = here.status_is ∙ ap (λ (a : Answer). a.status) answers in
-    let left = here.memory_is ∙ ap (λ (a : Answer). a.memory) answers ∙ sym (entered_memory base es e room (command_of o.packet) verdict refl told) in
+    let reported : status ≡ (answer (replay base es) room (command_of o.packet) verdict).status = here.status_is ∙ ap (λ (a : Answer). a.status) answers in
+    let left = here.memory_is ∙ ap (λ (a : Answer). a.memory) answers ∙ sym (entered_memory base es e room (command_of o.packet) verdict refl reported) in
     let with_room = subst (λ (x : Bool). memory_of (if x then after_record b share judged (answer_of b judged) else b) ≡ replay base (if room then es ++ e ∷ [] else es)) same left in
     let made = bank_by n k port es (memory n h k) e b share judged room entry here.below here.bank with_room in
     let its = subst (λ (x : Bool). IsBankOf n k (if room then es ++ e ∷ [] else es) (replay base (if room then es ++ e ∷ [] else es)) (if x then after_record b share judged (answer_of b judged) else b)) (sym same) made in
     subst (λ (now : List EntryValue). IsBankOf n k now (replay base now) (after_command b share judged)) (sym (entries_here n h port k o status reply here.is_open here.lies)) its
 
 -- the banks after a command that ended at one of them
-banks_behind : (n : Node) (h : History) (port verdict k : ℕ) (p : PortValue) (r : RunValue) (o : Open) (b : BankValue) (status : Status) (reply : List ℕ) (all : List BankValue) → IsAtBank n h port verdict k p r o b status
+banks_after : (n : Node) (h : History) (port verdict k : ℕ) (p : PortValue) (r : RunValue) (o : Open) (b : BankValue) (status : Status) (reply : List ℕ) (all : List BankValue) → IsAtBank n h port verdict k p r o b status
     → slice_get all k ≡ Some b → AreBanksOf n (entries n h) (memory n h) all
     → AreBanksOf n (entries n (Then h (Effect port) (Done status reply None))) (memory n (Then h (Effect port) (Done status reply None))) (slice_set all k (after_command b (share_in p k port) (judged_with port verdict r)))
-banks_behind n h port verdict k p r o b status reply all here there are = record {
+banks_after n h port verdict k p r o b status reply all here there are = record {
   count = length-set all k new ∙ are.count;
   each = λ j x found. each j x found (k == j) refl;
 }
@@ -175,7 +175,7 @@ banks_behind n h port verdict k p r o b status reply all here there are = record
     each j x found true own =
         let same = eqb-true k j own in
         let is = at_written all k j b _ x there (sym same) found in
-        let made = bank_behind n h port verdict k p r o b status reply here in
+        let made = bank_after n h port verdict k p r o b status reply here in
         subst (λ (v : BankValue). IsBankOf n j (entries n (Then h (Effect port) (Done status reply None)) j) (memory n (Then h (Effect port) (Done status reply None)) j) v) (sym is)
         (subst (λ (i : ℕ). IsBankOf n i (entries n (Then h (Effect port) (Done status reply None)) i) (memory n (Then h (Effect port) (Done status reply None)) i) (after_command b (share_in p k port) (judged_with port verdict r))) same made)
     each j x found false own =
@@ -183,8 +183,8 @@ banks_behind n h port verdict k p r o b status reply all here there are = record
         subst (λ (es : List EntryValue). IsBankOf n j es (replay (first_memory (slice_get n.banks j)) es) x) (sym (entries_there n h port k j o status reply here.is_open here.lies own)) (are.each j x before)
 
 -- of every other port there are as many entries as before
-counts_behind : (n : Node) (h : History) (port k : ℕ) (o : Open) (status : Status) (reply : List ℕ) → opened h port ≡ Some o → place_in n o.packet ≡ Some (places.Bank k) → OthersKeepCounts n h (Effect port) (Done status reply None)
-counts_behind n h port k o status reply is lies = λ q j apart.
+counts_after : (n : Node) (h : History) (port k : ℕ) (o : Open) (status : Status) (reply : List ℕ) → opened h port ≡ Some o → place_in n o.packet ≡ Some (places.Bank k) → OthersKeepCounts n h (Effect port) (Done status reply None)
+counts_after n h port k o status reply is lies = λ q j apart.
     ap (λ (es : List EntryValue). length (numbers_of q es)) (entries_done n h (Effect port) status reply None o (Some (places.Bank k)) is lies j) ∙ at_bank q j apart (k == j)
   where
     at_bank : (q j : ℕ) → (port == q) ≡ false → (own : Bool) → length (numbers_of q (if own then entered n (slice_get n.banks j) port o status (entries n h j) else entries n h j)) ≡ length (numbers_of q (entries n h j))
@@ -197,14 +197,14 @@ share_by : (port : ℕ) (share : ShareValue) (es : List EntryValue) (e : EntryVa
 share_by port share es e true own is = record { holder = is.holder; next = ap (λ (x : ℕ). x + 1) is.next ∙ sym (numbers_same port es e own) }
 share_by port share es e false own is = is
 
-share_behind : (n : Node) (h : History) (port verdict k : ℕ) (p : PortValue) (r : RunValue) (o : Open) (b : BankValue) (status : Status) (reply : List ℕ) → IsAtBank n h port verdict k p r o b status
+share_after : (n : Node) (h : History) (port verdict k : ℕ) (p : PortValue) (r : RunValue) (o : Open) (b : BankValue) (status : Status) (reply : List ℕ) → IsAtBank n h port verdict k p r o b status
     → IsShareWith port (length (numbers_of port (entries n (Then h (Effect port) (Done status reply None)) k))) (next_share b (share_in p k port) (judged_with port verdict r))
-share_behind n h port verdict k p r o b status reply here =
+share_after n h port verdict k p r o b status reply here =
     let share = share_in p k port in
     let bank = slice_get n.banks k in
     let es = entries n h k in
     let e = entry_left n port (length (numbers_of port es)) o status in
-    let room = has_room bank port es in
+    let room = has_entry_room bank port es in
     let same = same_room n k port es (memory n h k) b here.below here.bank in
     let made = share_by port share es e room (eq-eqb port port refl) (record { holder = here.holder; next = here.next }) in
     let its = subst (λ (x : Bool). IsShareWith port (length (numbers_of port (if room then es ++ e ∷ [] else es))) (if x then record { port = share.port; number = share.number + 1 } else share)) (sym same) made in
@@ -213,9 +213,9 @@ share_behind n h port verdict k p r o b status reply here =
 -- the port after a command that ended at a bank
 port_at_bank : (n : Node) (h : History) (port verdict k : ℕ) (p : PortValue) (r : RunValue) (o : Open) (b : BankValue) (status : Status) (reply : List ℕ) → IsAtBank n h port verdict k p r o b status → k < length p.shares
     → IsPortOf n port (staging n h port) (opened h port) (entries n h) p
-    → IsPortBehind n h (Effect port) (Done status reply None) port (with_share_in (record p { run = None }) k (next_share b (share_in p k port) (judged_with port verdict r)))
+    → IsPortAfter n h (Effect port) (Done status reply None) port (with_share_in (record p { run = None }) k (next_share b (share_in p k port) (judged_with port verdict r)))
 port_at_bank n h port verdict k p r o b status reply here shared before = record {
-  staging_is = before.staging_is ∙ sym (ap (λ (last : Option Open). staged_behind n last status None (staging n h port)) here.is_open
+  staging_is = before.staging_is ∙ sym (ap (λ (last : Option Open). staged_after n last status None (staging n h port)) here.is_open
       ∙ ap (λ (place : Option Place). staged_at place status (command_of o.packet) (staging n h port)) here.lies);
   judging = tt;
   count = length-set p.shares k _ ∙ before.count;
@@ -228,7 +228,7 @@ port_at_bank n h port verdict k p r o b status reply here shared before = record
         let same = eqb-true k j own in
         let old = slice_get-get_or p.shares k (first_share port) shared in
         let is = at_written p.shares k j _ _ share old (sym same) found in
-        let made = share_behind n h port verdict k p r o b status reply here in
+        let made = share_after n h port verdict k p r o b status reply here in
         subst (λ (i : ℕ). IsShareWith port (length (numbers_of port (entries n (Then h (Effect port) (Done status reply None)) i))) share) same
         (subst (λ (v : ShareValue). IsShareWith port (length (numbers_of port (entries n (Then h (Effect port) (Done status reply None)) k))) v) (sym is) made)
     each j share found false own =
@@ -238,9 +238,9 @@ port_at_bank n h port verdict k p r o b status reply here shared before = record
 -- ---- what is told
 
 -- if a command of the port has its verdict, its end is by its place
-pub effect_told : (n : Node) (h : History) (port verdict : ℕ) (o : Open) (place : Option Place) → opened h port ≡ Some o → turn_of n port o ≡ Some (turns.Verdict verdict) → place_in n o.packet ≡ place
+pub effect_reported : (n : Node) (h : History) (port verdict : ℕ) (o : Open) (place : Option Place) → opened h port ≡ Some o → turn_of n port o ≡ Some (turns.Verdict verdict) → place_in n o.packet ≡ place
     → effect_outcome n h port (opened h port) ≡ effect_at_place n h port (command_of o.packet) verdict place
-effect_told n h port verdict o place is stands lies =
+effect_reported n h port verdict o place is stands lies =
     ap (effect_outcome n h port) is ∙ ap (effect_at_turn n h port o) stands ∙ ap (effect_at_place n h port (command_of o.packet) verdict) lies
 
 done_as : (status : Status) (reply : List ℕ) (a : Answer) → status ≡ a.status → reply ≡ a.reply → Done status reply None ≡ done a
@@ -278,7 +278,7 @@ entries_stay n h event status reply loaded o place is lies none k =
 -- the answer to a command that ends at a staging, and what it leaves there
 record IsStagedAs (n : Node) (h : History) (port verdict : ℕ) (o : Open) (place : Place) (s t : Staged) (status : Status) (reply : List ℕ) : Type 0 where
   none : IsNoBank place
-  told : effect_at_place n h port (command_of o.packet) verdict (Some place) ≡ Done status reply None
+  reported : effect_at_place n h port (command_of o.packet) verdict (Some place) ≡ Done status reply None
   staged_is : t ≡ staged_at (Some place) status (command_of o.packet) s
 
 staged_as : (n : Node) (h : History) (port verdict : ℕ) (o : Open) (r : RunValue) (place : Place) (old new : List BankValue) (p q : PortValue) (status : Status) (reply : List ℕ) → IsNoBank place → r.place ≡ place → r.packet ≡ o.packet → p.staging ≡ staging n h port
@@ -289,23 +289,23 @@ staged_as n h port verdict o r places.Staging old new p q status reply none is p
     let judged = judged_with port verdict r in
     let c = command_of o.packet in
     let same = ap (λ (v : Staged). answer_on 0 v.bytes judged) staged_p ∙ ap (λ (d : Cargo). answer (memory_at 0 (staging n h port).bytes) true (command_of d) verdict) packet in
-    let told = end.staged.status ∙ ap (λ (place : Place). (answer_at_place place p.staging judged).status) is ∙ ap (λ (a : Answer). a.status) same in
+    let reported = end.staged.status ∙ ap (λ (place : Place). (answer_at_place place p.staging judged).status) is ∙ ap (λ (a : Answer). a.status) same in
     let answered = end.staged.reply ∙ ap (λ (place : Place). (answer_at_place place p.staging judged).reply) is ∙ ap (λ (a : Answer). a.reply) same in
     let left = end.staged.staging ∙ ap (λ (place : Place). after_place place p.staging judged) is ∙ ap (λ (a : Answer). staged a.memory.bytes p.staging.load_result) same ∙ ap (λ (v : Staged). staged (staging_answer n h port c verdict).memory.bytes v.load_result) staged_p in
     record {
       none = tt;
-      told = sym (done_as status reply (staging_answer n h port c verdict) told answered);
-      staged_is = left ∙ ap (λ (x : Status). staged (effect_with x (memory_at 0 (staging n h port).bytes) c).memory.bytes (staging n h port).load_result) (sym told);
+      reported = sym (done_as status reply (staging_answer n h port c verdict) reported answered);
+      staged_is = left ∙ ap (λ (x : Status). staged (effect_with x (memory_at 0 (staging n h port).bytes) c).memory.bytes (staging n h port).load_result) (sym reported);
     }
 staged_as n h port verdict o r places.LoadResult old new p q status reply none is packet staged_p end =
     let judged = judged_with port verdict r in
     let c = command_of o.packet in
     let same = ap (λ (v : Staged). answer_on 0x10000 v.load_result judged) staged_p ∙ ap (λ (d : Cargo). answer (memory_at 0x10000 (staging n h port).load_result) true (command_of d) verdict) packet in
-    let told = end.staged.status ∙ ap (λ (place : Place). (answer_at_place place p.staging judged).status) is ∙ ap (λ (a : Answer). a.status) same in
+    let reported = end.staged.status ∙ ap (λ (place : Place). (answer_at_place place p.staging judged).status) is ∙ ap (λ (a : Answer). a.status) same in
     let answered = end.staged.reply ∙ ap (λ (place : Place). (answer_at_place place p.staging judged).reply) is ∙ ap (λ (a : Answer). a.reply) same in
     record {
       none = tt;
-      told = sym (done_as status reply (load_result_answer n h port c verdict) told answered);
+      reported = sym (done_as status reply (load_result_answer n h port c verdict) reported answered);
       staged_is = end.staged.staging ∙ ap (λ (place : Place). after_place place p.staging judged) is ∙ staged_p;
     }
 
@@ -318,9 +318,9 @@ banks_kept places.Control old new p q j status reply none end = absurd end
 -- the port after a command that ended at its staging
 port_at_staging : (n : Node) (h : History) (port : ℕ) (o : Open) (place : Place) (p q : PortValue) (status : Status) (reply : List ℕ) → opened h port ≡ Some o → place_in n o.packet ≡ Some place → IsNoBank place
     → q.staging ≡ staged_at (Some place) status (command_of o.packet) (staging n h port) → q ≡ record p { staging = q.staging; run = None } → IsPortOf n port (staging n h port) (opened h port) (entries n h) p
-    → IsPortBehind n h (Effect port) (Done status reply None) port q
+    → IsPortAfter n h (Effect port) (Done status reply None) port q
 port_at_staging n h port o place p q status reply is lies none staging_is rest before = record {
-  staging_is = staging_is ∙ sym (ap (λ (last : Option Open). staged_behind n last status None (staging n h port)) is
+  staging_is = staging_is ∙ sym (ap (λ (last : Option Open). staged_after n last status None (staging n h port)) is
       ∙ ap (λ (x : Option Place). staged_at x status (command_of o.packet) (staging n h port)) lies);
   judging = subst (λ (v : PortValue). IsJudging n port None v.run) (sym rest) tt;
   count = ap (λ (v : PortValue). length v.shares) rest ∙ before.count;
@@ -338,16 +338,16 @@ pub record IsJudgedIn (w : WorldValue) (port verdict : ℕ) (p : PortValue) (r :
   pub turn_is : r.turn ≡ turns.Verdict verdict
 
 -- where the program of the command is, by its history
-pub stands_at : (n : Node) (port verdict : ℕ) (o : Open) (r : RunValue) → r.turn ≡ turns.Verdict verdict → IsRunOf n port o r → turn_of n port o ≡ Some (turns.Verdict verdict)
+pub stands_at : (n : Node) (port verdict : ℕ) (o : Open) (r : RunValue) → r.turn ≡ turns.Verdict verdict → IsRunOfOpen n port o r → turn_of n port o ≡ Some (turns.Verdict verdict)
 stands_at n port verdict o r is run = run.turn ∙ ap (λ (turn : Turn). Some turn) is
 
-pub lies_at : (n : Node) (port : ℕ) (o : Open) (r : RunValue) (place : Place) → r.place ≡ place → IsRunOf n port o r → place_in n o.packet ≡ Some place
+pub lies_at : (n : Node) (port : ℕ) (o : Open) (r : RunValue) (place : Place) → r.place ≡ place → IsRunOfOpen n port o r → place_in n o.packet ≡ Some place
 lies_at n port o r place is run = run.placed.lies ∙ ap (λ (x : Place). Some x) is
 
 effect_at_bank : (w : WorldValue) (port verdict k : ℕ) (p : PortValue) (r : RunValue) (b : BankValue) (status : Status) (reply : List ℕ) → IsJudgedIn w port verdict p r → r.place ≡ places.Bank k
     → slice_get w.banks k ≡ Some b → status ≡ (answer_of b (judged_with port verdict r)).status → memory_of (after_command b (share_in p k port) (judged_with port verdict r)) ≡ (answer_of b (judged_with port verdict r)).memory
     → reply ≡ (answer_of b (judged_with port verdict r)).reply
-    → GoesOn (Effect port) (Done status reply None) w (record w { banks = slice_set w.banks k (after_command b (share_in p k port) (judged_with port verdict r)); ports = slice_set w.ports port (with_share_in (record p { run = None }) k (next_share b (share_in p k port) (judged_with port verdict r))) })
+    → GoesOnLawfully (Effect port) (Done status reply None) w (record w { banks = slice_set w.banks k (after_command b (share_in p k port) (judged_with port verdict r)); ports = slice_set w.ports port (with_share_in (record p { run = None }) k (next_share b (share_in p k port) (judged_with port verdict r))) })
 effect_at_bank w port verdict k p r b status reply judged place there status_is memory_is reply_is n h world =
     let old = world.world in
     let before = old.ports_are.each port p judged.there in
@@ -372,23 +372,23 @@ effect_at_bank w port verdict k p r b status reply judged place there status_is 
       memory_is = memory_is;
     } in
     let answers = same_answer n h k port verdict o r b below command.run.packet here.bank in
-    let told = done_as status reply (bank_answer n h k port (command_of o.packet) verdict) (status_is ∙ ap (λ (a : Answer). a.status) answers) (reply_is ∙ ap (λ (a : Answer). a.reply) answers) in
-    let lawful = told ∙ sym (effect_told n h port verdict o (Some (places.Bank k)) command.is_open stands lies) in
+    let reported = done_as status reply (bank_answer n h k port (command_of o.packet) verdict) (status_is ∙ ap (λ (a : Answer). a.status) answers) (reply_is ∙ ap (λ (a : Answer). a.reply) answers) in
+    let lawful = reported ∙ sym (effect_reported n h port verdict o (Some (places.Bank k)) command.is_open stands lies) in
     record {
       lawful = then_lawful n h (Effect port) (Done status reply None) world.lawful (outcome_here n h (Effect port) (Done status reply None) w.ports judged.below old.ports_are.count lawful) tt;
       world = record {
         windows_are = old.windows_are;
         sizes_are = old.sizes_are;
-        banks_are = banks_behind n h port verdict k p r o b status reply w.banks here there old.banks_are;
+        banks_are = banks_after n h port verdict k p r o b status reply w.banks here there old.banks_are;
         words_are = old.words_are;
         programs_are = old.programs_are;
         count_is = old.count_is;
-        ports_are = ports_changed n h (Effect port) (Done status reply None) w.ports p _ judged.there (port_at_bank n h port verdict k p r o b status reply here shared before) (counts_behind n h port k o status reply command.is_open lies) old.ports_are;
+        ports_are = ports_changed n h (Effect port) (Done status reply None) w.ports p _ judged.there (port_at_bank n h port verdict k p r o b status reply here shared before) (counts_after n h port k o status reply command.is_open lies) old.ports_are;
       };
     }
 
 effect_at_staging : (w : WorldValue) (port verdict : ℕ) (p q : PortValue) (r : RunValue) (new : List BankValue) (status : Status) (reply : List ℕ) (place : Place) → IsJudgedIn w port verdict p r → r.place ≡ place → IsNoBank place
-    → EndsAt place w.banks new (record p { run = None }) q (judged_with port verdict r) status reply → GoesOn (Effect port) (Done status reply None) w (record w { ports = slice_set w.ports port q })
+    → EndsAt place w.banks new (record p { run = None }) q (judged_with port verdict r) status reply → GoesOnLawfully (Effect port) (Done status reply None) w (record w { ports = slice_set w.ports port q })
 effect_at_staging w port verdict p q r new status reply place judged is none end n h world =
     let old = world.world in
     let before = old.ports_are.each port p judged.there in
@@ -398,7 +398,7 @@ effect_at_staging w port verdict p q r new status reply place judged is none end
     let lies = lies_at n port o r place is command.run in
     let ends = staged_as n h port verdict o r place w.banks new (record p { run = None }) q status reply none is command.run.packet before.staging_is end in
     let kept = banks_kept place w.banks new (record p { run = None }) q (judged_with port verdict r) status reply none end in
-    let lawful = sym ends.told ∙ sym (effect_told n h port verdict o (Some place) command.is_open stands lies) in
+    let lawful = sym ends.reported ∙ sym (effect_reported n h port verdict o (Some place) command.is_open stands lies) in
     let stay = entries_stay n h (Effect port) status reply None o place command.is_open lies none in
     record {
       lawful = then_lawful n h (Effect port) (Done status reply None) world.lawful (outcome_here n h (Effect port) (Done status reply None) w.ports judged.below old.ports_are.count lawful) tt;
@@ -417,21 +417,21 @@ effect_at_staging w port verdict p q r new status reply place judged is none end
 
 -- how an effect of a port goes on
 effect_by : (w : WorldValue) (port verdict : ℕ) (p q : PortValue) (r : RunValue) (new : List BankValue) (status : Status) (reply : List ℕ) (place : Place) → IsJudgedIn w port verdict p r → r.place ≡ place
-    → EndsAt place w.banks new (record p { run = None }) q (judged_with port verdict r) status reply → GoesOn (Effect port) (Done status reply None) w (record w { banks = new; ports = slice_set w.ports port q })
+    → EndsAt place w.banks new (record p { run = None }) q (judged_with port verdict r) status reply → GoesOnLawfully (Effect port) (Done status reply None) w (record w { banks = new; ports = slice_set w.ports port q })
 effect_by w port verdict p q r new status reply (places.Bank k) judged is end =
     let made = effect_at_bank w port verdict k p r end.bank status reply judged is end.there end.status_is end.memory_is end.reply_is in
-    let at_banks = subst (λ (bs : List BankValue). GoesOn (Effect port) (Done status reply None) w (record w { banks = bs; ports = slice_set w.ports port (with_share_in (record p { run = None }) k (next_share end.bank (share_in p k port) (judged_with port verdict r))) })) (sym end.banks_are) made in
-    subst (λ (v : PortValue). GoesOn (Effect port) (Done status reply None) w (record w { banks = new; ports = slice_set w.ports port v })) (sym end.port_is) at_banks
+    let at_banks = subst (λ (bs : List BankValue). GoesOnLawfully (Effect port) (Done status reply None) w (record w { banks = bs; ports = slice_set w.ports port (with_share_in (record p { run = None }) k (next_share end.bank (share_in p k port) (judged_with port verdict r))) })) (sym end.banks_are) made in
+    subst (λ (v : PortValue). GoesOnLawfully (Effect port) (Done status reply None) w (record w { banks = new; ports = slice_set w.ports port v })) (sym end.port_is) at_banks
 effect_by w port verdict p q r new status reply places.Staging judged is end =
-    subst (λ (bs : List BankValue). GoesOn (Effect port) (Done status reply None) w (record w { banks = bs; ports = slice_set w.ports port q })) (sym end.banks_are)
+    subst (λ (bs : List BankValue). GoesOnLawfully (Effect port) (Done status reply None) w (record w { banks = bs; ports = slice_set w.ports port q })) (sym end.banks_are)
     (effect_at_staging w port verdict p q r new status reply places.Staging judged is tt end)
 effect_by w port verdict p q r new status reply places.LoadResult judged is end =
-    subst (λ (bs : List BankValue). GoesOn (Effect port) (Done status reply None) w (record w { banks = bs; ports = slice_set w.ports port q })) (sym end.banks_are)
+    subst (λ (bs : List BankValue). GoesOnLawfully (Effect port) (Done status reply None) w (record w { banks = bs; ports = slice_set w.ports port q })) (sym end.banks_are)
     (effect_at_staging w port verdict p q r new status reply places.LoadResult judged is tt end)
 effect_by w port verdict p q r new status reply places.Control judged is end = absurd end
 
 pub effect_goes_on : (w : WorldValue) (port verdict : ℕ) (p q : PortValue) (r : RunValue) (new : List BankValue) (status : Status) (reply : List ℕ) → IsJudgedIn w port verdict p r
-    → EndsAt r.place w.banks new (record p { run = None }) q (judged_with port verdict r) status reply → GoesOn (Effect port) (Done status reply None) w (record w { banks = new; ports = slice_set w.ports port q })
+    → EndsAt r.place w.banks new (record p { run = None }) q (judged_with port verdict r) status reply → GoesOnLawfully (Effect port) (Done status reply None) w (record w { banks = new; ports = slice_set w.ports port q })
 effect_goes_on w port verdict p q r new status reply judged end = effect_by w port verdict p q r new status reply r.place judged refl end
 
 -- ---- what is due
@@ -480,7 +480,7 @@ no_effect n h port (Some o) None is none = absurd is
 no_effect n h port (Some o) (Some r) is none = undue_at n h port o r.place r.turn is.placed.lies none ∙ sym (ap (effect_at_turn n h port o) is.turn)
 
 -- an effect is refused if none is due
-pub effect_refused : (w : WorldValue) (port : ℕ) (p : PortValue) → slice_get w.ports port ≡ Some p → port < length w.ports → None ≡ effect_due p.run → GoesOn (Effect port) Refused w w
+pub effect_refused : (w : WorldValue) (port : ℕ) (p : PortValue) → slice_get w.ports port ≡ Some p → port < length w.ports → None ≡ effect_due p.run → GoesOnLawfully (Effect port) Refused w w
 effect_refused w port p there below none n h world =
     let here = world.world.ports_are.each port p there in
     record {

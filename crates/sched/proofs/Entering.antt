@@ -20,7 +20,7 @@ use Rattle.node_parts.specs.declared.config.BankConfig.{BankConfig}
 use Rattle.sched.specs.declared.event.Event.{Event}
 use Rattle.sched.specs.declared.event.Outcome.TheVariants.{Done}
 use Rattle.sched.specs.History.{History, Then, Open, port_of, opened}
-use Rattle.sched.specs.Looking.{Node, place_in, entry_left, has_room, entered, entries_at, entries_behind, entries}
+use Rattle.sched.specs.Looking.{Node, place_in, entry_left, has_entry_room, entered, entries_at, entries_after, entries}
 
 -- ---- entries
 
@@ -28,7 +28,7 @@ use Rattle.sched.specs.Looking.{Node, place_in, entry_left, has_room, entered, e
 pub entries_done : (n : Node) (h : History) (event : Event) (status : Status) (reply : List ℕ) (loaded : Option (List ℕ)) (o : Open) (place : Option Place) → opened h (port_of event) ≡ Some o → place_in n o.packet ≡ place
     → (k : ℕ) → entries n (Then h event (Done status reply loaded)) k ≡ entries_at n k (port_of event) place o status (entries n h k)
 entries_done n h event status reply loaded o place is lies k =
-    ap (λ (last : Option Open). entries_behind n k (port_of event) last status (entries n h k)) is ∙ ap (λ (p : Option Place). entries_at n k (port_of event) p o status (entries n h k)) lies
+    ap (λ (last : Option Open). entries_after n k (port_of event) last status (entries n h k)) is ∙ ap (λ (p : Option Place). entries_at n k (port_of event) p o status (entries n h k)) lies
 
 -- ---- the numbers of ports
 
@@ -45,7 +45,7 @@ numbers_other port es e other =
 -- another port has as many entries after an entry of the port
 pub entered_other : (n : Node) (bank : Option BankConfig) (port : ℕ) (o : Open) (status : Status) (es : List EntryValue) (q : ℕ) → (port == q) ≡ false → length (numbers_of q (entered n bank port o status es)) ≡ length (numbers_of q es)
 entered_other n bank port o status es q apart =
-    by_room (has_room bank port es)
+    by_room (has_entry_room bank port es)
   where
     by_room : (room : Bool) → length (numbers_of q (if room then es ++ entry_left n port (length (numbers_of port es)) o status ∷ [] else es)) ≡ length (numbers_of q es)
     by_room true = numbers_other q es (entry_left n port (length (numbers_of port es)) o status) apart

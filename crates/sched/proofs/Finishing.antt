@@ -16,7 +16,7 @@ use Rattle.bank.specs.Admission.{IsPlacedBy}
 use Rattle.bank.specs.Records.{BankValue, after_command, extent_of, fits, next_share}
 use Rattle.node_parts.specs.Applied.{share_of, with_share}
 use Rattle.node_parts.specs.Pairs.{IsPaired, PairedCommandsFit, OwnStaysPaired, OthersStayPaired}
-use Rattle.sched.specs.Ends.{judged_with, share_in, with_share_in, FitsBank, CanEnd, CanFinish, EndsAt, HasFinished}
+use Rattle.sched.specs.Ends.{judged_with, share_in, with_share_in, FitsBank, CanEnd, CanFinish, EndsAt, HasPortFinished}
 use Rattle.sched.specs.Worlds.{RunValue, PortValue, WorldValue, IsPortIn, ArePortsIn, IsRunUnder, IsRunUnderIfAny, IsWorld, pass_of_port}
 use Rattle.sched.proofs.Growth.{at_written}
 use Rattle.lemmas.proofs.Places.{at_other}
@@ -174,10 +174,10 @@ ended_fits w port verdict p q r new status reply places.LoadResult own others wo
 ended_fits w port verdict p q r new status reply places.Control own others world there at end = absurd end
 
 -- how the judged command of that port ended
-pub ends_at : (old new : List BankValue) (port verdict : ℕ) (p q : PortValue) (r : RunValue) (status : Status) (reply : List ℕ) → p.run ≡ Some r → HasFinished old new port verdict p q p.run status reply
+pub ends_at : (old new : List BankValue) (port verdict : ℕ) (p q : PortValue) (r : RunValue) (status : Status) (reply : List ℕ) → p.run ≡ Some r → HasPortFinished old new port verdict p q p.run status reply
     → EndsAt r.place old new (record p { run = None }) q (judged_with port verdict r) status reply
 ends_at old new port verdict p q r status reply is finished =
-    subst (λ (run : Option RunValue). HasFinished old new port verdict p q run status reply) is finished
+    subst (λ (run : Option RunValue). HasPortFinished old new port verdict p q run status reply) is finished
 
 pub finished_fits : (w : WorldValue) (port verdict : ℕ) (p q : PortValue) (r : RunValue) (new : List BankValue) (status : Status) (reply : List ℕ) → OwnStaysPaired → OthersStayPaired → IsWorld w → slice_get w.ports port ≡ Some p
     → EndsAt r.place w.banks new (record p { run = None }) q (judged_with port verdict r) status reply → IsWorld (record w { banks = new; ports = slice_set w.ports port q })

@@ -15,20 +15,20 @@ use Rattle.bank.specs.Records.{BankValue, EntryValue}
 use Rattle.node_parts.specs.declared.config.BankConfig.{BankConfig}
 use Rattle.node_parts.specs.declared.config.NodeConfig.{NodeConfig}
 use Rattle.node_programs.specs.Staged.{Staged}
-use Rattle.sched.specs.Firsts.{AddsFirst, IsFirst, slot_with_program, with_first}
+use Rattle.sched.specs.Firsts.{AddsFirst, IsFirstOfWorld, slot_with_program, with_first}
 use Rattle.sched.specs.Headline.{IsNode}
 use Rattle.sched.specs.History.{Start}
-use Rattle.sched.specs.Looking.{Node, entries, first_memory, published, published_after, published_behind, publishes, room_of}
+use Rattle.sched.specs.Looking.{Node, entries, first_memory, published, published_after, published_after_count, publishes, room_of}
 use Rattle.sched.specs.Worlds.{AreAcceptedFor, AreProgramsOf, ArePortsOf, IsBankOf, IsFor, IsJudging, IsPortOf, IsShownAs, IsWorld, IsWorldOf, PortValue, RunValue, WorldValue, node_with}
 
 -- one more after several
 pub published_more : (firsts : List (ℕ × Program)) (made : ℕ × Program) (count slot : ℕ) (before : Program × ℕ)
     → published_after (firsts ++ made ∷ []) count slot before
-    ≡ published_behind (Some made) (count + length firsts) slot (published_after firsts count slot before)
-published_more [] made count slot before = ap (λ (k : ℕ). published_behind (Some made) k slot before) (omega arith)
+    ≡ published_after_count (Some made) (count + length firsts) slot (published_after firsts count slot before)
+published_more [] made count slot before = ap (λ (k : ℕ). published_after_count (Some made) k slot before) (omega arith)
 published_more (first ∷ rest) made count slot before =
-    published_more rest made (count + 1) slot (published_behind (Some first) count slot before)
-    ∙ ap (λ (k : ℕ). published_behind (Some made) k slot (published_after rest (count + 1) slot (published_behind (Some first) count slot before))) (omega arith)
+    published_more rest made (count + 1) slot (published_after_count (Some first) count slot before)
+    ∙ ap (λ (k : ℕ). published_after_count (Some made) k slot (published_after rest (count + 1) slot (published_after_count (Some first) count slot before))) (omega arith)
 
 -- programs that are published before the first event are justified, and so is what is published before any event
 pub justified_after : (n : Node) (firsts : List (ℕ × Program)) (count slot : ℕ) (before : Program × ℕ)
@@ -88,14 +88,14 @@ bank_again n m k es memory b banks ports is = record {
 abbrev pub first_world : WorldValue → ℕ → AcceptedValue → WorldValue
 first_world w slot a = record w { programs = set w.programs slot (a, w.count + 1); count = w.count + 1 }
 
-world_more : (n : Node) (w : WorldValue) (slot : ℕ) (a : AcceptedValue) → IsFirst w.sizes (slot, a) → IsJustified a.program a.sizes
+world_more : (n : Node) (w : WorldValue) (slot : ℕ) (a : AcceptedValue) → IsFirstOfWorld w.sizes (slot, a) → IsJustified a.program a.sizes
     → IsWorldOf n Start w → IsWorldOf (with_first n (slot, a.program)) Start (first_world w slot a)
 world_more n w slot a first justified old =
     let sizes : a.sizes ≡ n.sizes = first.1 ∙ old.sizes_are in
     let accepted : IsFor n a = record { sizes = sizes; justified = subst (λ (maps : Maps). IsJustified a.program maps) sizes justified } in
     let m = with_first n (slot, a.program) in
     let number : w.count + 1 ≡ length n.firsts + 1 = ap (λ (k : ℕ). k + 1) old.count_is in
-    let behind : (s : ℕ) → published m Start s ≡ (if slot == s then (a.program, w.count + 1) else published n Start s) = λ s.
+    let following : (s : ℕ) → published m Start s ≡ (if slot == s then (a.program, w.count + 1) else published n Start s) = λ s.
     published_more n.firsts (slot, a.program) 0 s (n.factory, 0)
     ∙ ap (λ (k : ℕ). if slot == s then (a.program, k) else published n Start s) (omega (arith, number)) in
     let shown = first_shown n (published n Start) w.programs slot (w.count + 1) a accepted old.programs_are in
@@ -106,12 +106,12 @@ world_more n w slot a first justified old =
       words_are = old.words_are;
       programs_are = λ s x found.
           let here = shown s x found in
-          subst (λ (p : Program × ℕ). IsShownAs m p x) (sym (behind s)) (record { program = here.program; generation = here.generation; accepted = record { sizes = here.accepted.sizes; justified = here.accepted.justified } });
+          subst (λ (p : Program × ℕ). IsShownAs m p x) (sym (following s)) (record { program = here.program; generation = here.generation; accepted = record { sizes = here.accepted.sizes; justified = here.accepted.justified } });
       count_is = number ∙ sym (length-append n.firsts ((slot, a.program) ∷ []));
       ports_are = record { count = old.ports_are.count; each = λ port p at. port_again n m port _ _ p refl (old.ports_are.each port p at) };
     }
 
-node_more : (n : Node) (w : WorldValue) (slot : ℕ) (a : AcceptedValue) → IsFirst w.sizes (slot, a) → IsJustified a.program a.sizes
+node_more : (n : Node) (w : WorldValue) (slot : ℕ) (a : AcceptedValue) → IsFirstOfWorld w.sizes (slot, a) → IsJustified a.program a.sizes
     → n.sizes ≡ w.sizes → IsNode n → IsNode (with_first n (slot, a.program))
 node_more n w slot a first justified sizes node = record {
   few_ports = node.few_ports;
@@ -120,7 +120,7 @@ node_more n w slot a first justified sizes node = record {
 }
 
 -- it adds the program
-pub adds_first : (w : WorldValue) (slot : ℕ) (a : AcceptedValue) → IsFirst w.sizes (slot, a) → IsJustified a.program a.sizes
+pub adds_first : (w : WorldValue) (slot : ℕ) (a : AcceptedValue) → IsFirstOfWorld w.sizes (slot, a) → IsJustified a.program a.sizes
     → AddsFirst (slot, a) w (first_world w slot a)
 adds_first w slot a first justified = record {
   world = λ n old. world_more n w slot a first justified old;
@@ -130,7 +130,7 @@ adds_first w slot a first justified = record {
 }
 
 -- it is a world
-pub first_fits : (w : WorldValue) (slot : ℕ) (a : AcceptedValue) → IsFirst w.sizes (slot, a) → IsWorld w → IsWorld (first_world w slot a)
+pub first_fits : (w : WorldValue) (slot : ℕ) (a : AcceptedValue) → IsFirstOfWorld w.sizes (slot, a) → IsWorld w → IsWorld (first_world w slot a)
 first_fits w slot a first fits = record {
   cells = fits.cells;
   slots = length-set w.programs slot (a, w.count + 1) ∙ fits.slots;

@@ -48,8 +48,8 @@ here_opened : (h : History) (event : Event) (outcome : Outcome) (port : ℕ) →
 here_opened h event outcome port e = rw e refl
 
 -- a port after an event of its own, by what it had and what the event came to
-abbrev pub IsPortBehind : Node → History → Event → Outcome → (port : ℕ) → PortValue → Type 0
-IsPortBehind n h event outcome port p =
+abbrev pub IsPortAfter : Node → History → Event → Outcome → (port : ℕ) → PortValue → Type 0
+IsPortAfter n h event outcome port p =
     IsPortOf n port (staged_by n (opened h port) outcome (staging n h port)) (opened_by h (opened h port) event outcome) (entries n (Then h event outcome)) p
 
 -- each other port has as many entries as before
@@ -59,7 +59,7 @@ OthersKeepCounts n h event outcome = (port k : ℕ) → (port_of event == port) 
 
 -- the port of an event, after it
 own_port : (n : Node) (h : History) (event : Event) (outcome : Outcome) (port : ℕ) (p : PortValue) → (port_of event == port) ≡ true
-    → IsPortBehind n h event outcome port p → IsPortOf n port (staging n (Then h event outcome) port) (opened (Then h event outcome) port) (entries n (Then h event outcome)) p
+    → IsPortAfter n h event outcome port p → IsPortOf n port (staging n (Then h event outcome) port) (opened (Then h event outcome) port) (entries n (Then h event outcome)) p
 own_port n h event outcome port p own is =
     port_same n port _ (staging n (Then h event outcome) port) _ (opened (Then h event outcome) port) (entries n (Then h event outcome)) (entries n (Then h event outcome)) p
     (here_staging n h event outcome port own) (here_opened h event outcome port own) (λ k. refl) is
@@ -72,21 +72,21 @@ other_port n h event outcome port p other counts is =
     (elsewhere_staging n h event outcome port other) (elsewhere_opened h event outcome port other) (λ k. counts port k other) is
 
 port_by : (n : Node) (h : History) (event : Event) (outcome : Outcome) (ports : List PortValue) (old new : PortValue) → slice_get ports (port_of event) ≡ Some old
-    → IsPortBehind n h event outcome (port_of event) new → OthersKeepCounts n h event outcome → ArePortsOf n h ports
+    → IsPortAfter n h event outcome (port_of event) new → OthersKeepCounts n h event outcome → ArePortsOf n h ports
     → (port : ℕ) (p : PortValue) → slice_get (set ports (port_of event) new) port ≡ Some p → (own : Bool) → (port_of event == port) ≡ own
     → IsPortOf n port (staging n (Then h event outcome) port) (opened (Then h event outcome) port) (entries n (Then h event outcome)) p
 port_by n h event outcome ports old new there is counts all port p found true own =
     let same = eqb-true (port_of event) port own in
     let written = at_written ports (port_of event) port old new p there (sym same) found in
-    let mine = subst (λ (q : ℕ). IsPortBehind n h event outcome q new) same is in
-    own_port n h event outcome port p own (subst (λ (v : PortValue). IsPortBehind n h event outcome port v) (sym written) mine)
+    let mine = subst (λ (q : ℕ). IsPortAfter n h event outcome q new) same is in
+    own_port n h event outcome port p own (subst (λ (v : PortValue). IsPortAfter n h event outcome port v) (sym written) mine)
 port_by n h event outcome ports old new there is counts all port p found false own =
     let before = at_other ports (port_of event) port new p (λ e. eqb-false (port_of event) port own (sym e)) found in
     other_port n h event outcome port p own counts (all.each port p before)
 
 -- ports of which that of the event was written
 pub ports_changed : (n : Node) (h : History) (event : Event) (outcome : Outcome) (ports : List PortValue) (old new : PortValue) → slice_get ports (port_of event) ≡ Some old
-    → IsPortBehind n h event outcome (port_of event) new → OthersKeepCounts n h event outcome → ArePortsOf n h ports
+    → IsPortAfter n h event outcome (port_of event) new → OthersKeepCounts n h event outcome → ArePortsOf n h ports
     → ArePortsOf n (Then h event outcome) (slice_set ports (port_of event) new)
 ports_changed n h event outcome ports old new there is counts all = record {
   count = length-set ports (port_of event) new ∙ all.count;
@@ -101,7 +101,7 @@ LeavesAll Refused = Unit {0}
 LeavesAll (Discarded discard) = Unit {0}
 LeavesAll (Answered status reply) = Unit {0}
 LeavesAll (Taken generation) = ⊥
-LeavesAll (Told told) = ⊥
+LeavesAll (Told reported) = ⊥
 LeavesAll (Done status reply loaded) = ⊥
 
 cond_same : {A : Type 0} (b : Bool) (x y : A) → y ≡ x → cond b y x ≡ x
@@ -149,5 +149,5 @@ left_all n h event (Answered status reply) w leaves is = record {
   ports_are = ports_same n h event (Answered status reply) w.ports (λ port. refl) (λ port. refl) (λ port k. refl) is.ports_are;
 }
 left_all n h event (Taken generation) w leaves is = absurd leaves
-left_all n h event (Told told) w leaves is = absurd leaves
+left_all n h event (Told reported) w leaves is = absurd leaves
 left_all n h event (Done status reply loaded) w leaves is = absurd leaves

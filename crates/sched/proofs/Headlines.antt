@@ -22,17 +22,17 @@ use Rattle.sched.specs.declared.event.Event.{Event}
 use Rattle.sched.specs.declared.event.Event.TheVariants.{Take, Count, Ticket, Peak, Effect, Publish}
 use Rattle.sched.specs.declared.event.Outcome.{Outcome}
 use Rattle.sched.specs.declared.event.Outcome.TheVariants.{Refused, Discarded, Answered, Taken, Told, Done}
-use Rattle.sched.specs.Headline.{AreJudgedOnce, EndsBy, EveryHistoryJudgesOnce, HasBytes, IsEffectOf, IsJudgedOnce, IsJudgedOnceIfDone, IsLoadOf, IsStoppedWrite, IsNode, IsWriteEnd, memory_left}
+use Rattle.sched.specs.Headline.{AreJudgedOnce, EndsBy, EveryHistoryJudgesOnce, HasBytes, IsEffectOf, IsTakenOnceDoneOnce, IsJudgedOnceIfDone, IsLoadOf, IsStoppedWrite, IsNode, IsWriteEnd, memory_left}
 use Rattle.sched.specs.History.{History, Start, Then, Open, port_of, opened}
-use Rattle.sched.specs.Lawful.{IsLawfulButTold, IsControlled, IsLoaded, bank_answer, staging_answer, load_result_answer, done, effect_at_place}
-use Rattle.sched.specs.Looking.{Node, place_in, slot_of_packet, header_in, staging, staged_at, staged_behind, entry_left, has_room, entered, entries, first_memory, memory, published_behind, publishes, published, program_of}
+use Rattle.sched.specs.Lawful.{IsLawfulExceptAnswers, IsControlled, IsLoaded, bank_answer, staging_answer, load_result_answer, done, effect_at_place}
+use Rattle.sched.specs.Looking.{Node, place_in, slot_of_packet, seen_header_in, staging, staged_at, staged_after, entry_left, has_entry_room, entered, entries, first_memory, memory, published_after_count, publishes, published, program_of}
 use Rattle.sched.specs.Turns.{TurnsArePaths}
 use Rattle.sched.proofs.Ending.{IsNoBank, entries_stay}
 use Rattle.sched.proofs.Entering.{entries_done, entered_memory}
-use Rattle.sched.proofs.Judging.{IsDone, IsEnd, lawful_end, published_justified, began_bytes, began_lawful, generation_told, taken_kept}
+use Rattle.sched.proofs.Judging.{IsDone, IsEnd, lawful_end, published_justified, began_bytes, began_lawful, generation_reported, taken_kept}
 use Rattle.sched.proofs.Small.{open_words}
 use Rattle.sched.proofs.Headers.{header_of_command}
-use Rattle.sched.proofs.Opened.{opened_taken, opened_behind_done}
+use Rattle.sched.proofs.Opened.{opened_taken, opened_after_done}
 use Rattle.sched.proofs.Publishing.{loaded_program}
 
 cond_same : {A : Type 0} (b : Bool) (x y : A) → y ≡ x → cond b y x ≡ x
@@ -61,7 +61,7 @@ memory_answered n h port j verdict o is lies k =
         ≡ (if own then (bank_answer n h k port (command_of o.packet) verdict).memory else memory n h k)
     by true own =
         let same = eqb-true j k own in
-        entered_memory (first_memory (slice_get n.banks k)) (entries n h k) (entry_left n port (length (numbers_of port (entries n h k))) o (bank_answer n h j port (command_of o.packet) verdict).status) (has_room (slice_get n.banks k) port (entries n h k)) (command_of o.packet) verdict refl
+        entered_memory (first_memory (slice_get n.banks k)) (entries n h k) (entry_left n port (length (numbers_of port (entries n h k))) o (bank_answer n h j port (command_of o.packet) verdict).status) (has_entry_room (slice_get n.banks k) port (entries n h k)) (command_of o.packet) verdict refl
         (ap (λ (i : ℕ). (bank_answer n h i port (command_of o.packet) verdict).status) same)
     by false own = refl
 
@@ -69,11 +69,11 @@ memory_answered n h port j verdict o is lies k =
 
 -- at the event's port a staging is what the outcome says, at the others what it was
 staging_by : (n : Node) (h : History) (event : Event) (status : Status) (reply : List ℕ) (loaded : Option (List ℕ)) (o : Open) → opened h (port_of event) ≡ Some o → (q : ℕ)
-    → staging n (Then h event (Done status reply loaded)) q ≡ (if port_of event == q then staged_behind n (Some o) status loaded (staging n h q) else staging n h q)
+    → staging n (Then h event (Done status reply loaded)) q ≡ (if port_of event == q then staged_after n (Some o) status loaded (staging n h q) else staging n h q)
 staging_by n h event status reply loaded o is q = by (port_of event == q) refl
   where
-    by : (own : Bool) → (port_of event == q) ≡ own → (if own then staged_behind n (opened h q) status loaded (staging n h q) else staging n h q) ≡ (if own then staged_behind n (Some o) status loaded (staging n h q) else staging n h q)
-    by true own = ap (λ (last : Option Open). staged_behind n last status loaded (staging n h q)) (ap (opened h) (sym (eqb-true (port_of event) q own)) ∙ is)
+    by : (own : Bool) → (port_of event == q) ≡ own → (if own then staged_after n (opened h q) status loaded (staging n h q) else staging n h q) ≡ (if own then staged_after n (Some o) status loaded (staging n h q) else staging n h q)
+    by true own = ap (λ (last : Option Open). staged_after n last status loaded (staging n h q)) (ap (opened h) (sym (eqb-true (port_of event) q own)) ∙ is)
     by false own = refl
 
 -- an effect elsewhere than at a staging leaves each
@@ -90,7 +90,7 @@ effect_left n h port verdict o None is lies ends = absurd ends
 effect_left n h port verdict o (Some (places.Bank j)) is lies ends =
     let a = bank_answer n h j port (command_of o.packet) verdict in
     record {
-      told = refl;
+      reported = refl;
       memories = memory_answered n h port j verdict o is lies;
       stagings = staging_stays n h port a.status a.reply o (places.Bank j) is lies (λ s. refl);
       programs = λ slot. refl;
@@ -98,14 +98,14 @@ effect_left n h port verdict o (Some (places.Bank j)) is lies ends =
 effect_left n h port verdict o (Some places.Staging) is lies ends =
     let a = staging_answer n h port (command_of o.packet) verdict in
     record {
-      told = refl;
+      reported = refl;
       memories = memory_stays n h (Effect port) a.status a.reply None o places.Staging is lies tt;
       stagings = λ q. staging_by n h (Effect port) a.status a.reply None o is q ∙ by q (port == q) refl;
       programs = λ slot. refl;
     }
   where
     by : (q : ℕ) (own : Bool) → (port == q) ≡ own
-        → (if own then staged_behind n (Some o) (staging_answer n h port (command_of o.packet) verdict).status None (staging n h q) else staging n h q)
+        → (if own then staged_after n (Some o) (staging_answer n h port (command_of o.packet) verdict).status None (staging n h q) else staging n h q)
         ≡ (if own then staged (staging_answer n h q (command_of o.packet) verdict).memory.bytes (staging n h q).load_result else staging n h q)
     by q true own =
         let same = eqb-true port q own in
@@ -115,7 +115,7 @@ effect_left n h port verdict o (Some places.Staging) is lies ends =
 effect_left n h port verdict o (Some places.LoadResult) is lies ends =
     let a = load_result_answer n h port (command_of o.packet) verdict in
     record {
-      told = refl;
+      reported = refl;
       memories = memory_stays n h (Effect port) a.status a.reply None o places.LoadResult is lies tt;
       stagings = staging_stays n h port a.status a.reply o places.LoadResult is lies (λ s. refl);
       programs = λ slot. refl;
@@ -124,8 +124,8 @@ effect_left n h port verdict o (Some places.Control) is lies ends = absurd ends
 
 effect_ends : (n : Node) (h : History) (port verdict : ℕ) (o : Open) (outcome : Outcome) → opened h port ≡ Some o → IsDone outcome → outcome ≡ effect_at_place n h port (command_of o.packet) verdict (place_in n o.packet)
     → EndsBy n h port o verdict (Effect port) outcome
-effect_ends n h port verdict o outcome is done told =
-    rw told (effect_left n h port verdict o (place_in n o.packet) is refl (subst IsDone told done))
+effect_ends n h port verdict o outcome is done reported =
+    rw reported (effect_left n h port verdict o (place_in n o.packet) is refl (subst IsDone reported done))
 
 -- ---- control writes
 
@@ -134,7 +134,7 @@ stopped_left : (n : Node) (h : History) (port : ℕ) (o : Open) (status : Status
 stopped_left n h port o status is lies =
     let reply = reply_of (command_of o.packet) status [] in
     record {
-      told = refl;
+      reported = refl;
       memories = memory_stays n h (Publish port) status reply None o places.Control is lies tt;
       stagings = λ q. staging_by n h (Publish port) status reply None o is q ∙ cond_same (port == q) (staging n h q) _ (ap (λ (x : Option Place). staged_at x status (command_of o.packet) (staging n h q)) lies);
       programs = λ slot. refl;
@@ -143,24 +143,24 @@ stopped_left n h port o status is lies =
 load_left : (law : ImagesAreRead) (n : Node) (h : History) (port : ℕ) (o : Open) (load : Load) (outcome : Outcome) → opened h port ≡ Some o → place_in n o.packet ≡ Some places.Control
     → IsLoad (control_of (command_of o.packet).body) (staging n h port).bytes n.sizes (publishes n h + 1) load → IsLoaded n h (command_of o.packet) load outcome
     → IsLoadOf n h port (command_of o.packet) outcome (Then h (Publish port) outcome)
-load_left law n h port o (loads.Published slot a) outcome is lies decides told =
+load_left law n h port o (loads.Published slot a) outcome is lies decides reported =
     let reply = reply_of (command_of o.packet) Success [] in
     let result = published_result (publishes n h + 1) in
-    rw told (record {
+    rw reported (record {
       load = loads.Published slot a;
       decides = decides;
-      told = refl;
+      reported = refl;
       memories = memory_stays n h (Publish port) Success reply (Some result) o places.Control is lies tt;
       stagings = staging_by n h (Publish port) Success reply (Some result) o is;
-      programs = λ s. ap (λ (x : Option (ℕ × Program)). published_behind x (publishes n h) s (published n h s)) (loaded_program law n h port slot o a reply result is decides.0);
+      programs = λ s. ap (λ (x : Option (ℕ × Program)). published_after_count x (publishes n h) s (published n h s)) (loaded_program law n h port slot o a reply result is decides.0);
     })
-load_left law n h port o (loads.Refused refusal) outcome is lies decides told =
+load_left law n h port o (loads.Refused refusal) outcome is lies decides reported =
     let reply = reply_of (command_of o.packet) GeneralError [] in
     let result = refused_result refusal in
-    rw told (record {
+    rw reported (record {
       load = loads.Refused refusal;
       decides = decides;
-      told = refl;
+      reported = refl;
       memories = memory_stays n h (Publish port) GeneralError reply (Some result) o places.Control is lies tt;
       stagings = staging_by n h (Publish port) GeneralError reply (Some result) o is;
       programs = λ s. refl;
@@ -168,8 +168,8 @@ load_left law n h port o (loads.Refused refusal) outcome is lies decides told =
 
 write_left : (law : ImagesAreRead) (n : Node) (h : History) (port : ℕ) (o : Open) (line : Option Status) (outcome : Outcome) → opened h port ≡ Some o → place_in n o.packet ≡ Some places.Control
     → IsControlled n h port (command_of o.packet) line outcome → IsWriteEnd n h port (command_of o.packet) line outcome (Then h (Publish port) outcome)
-write_left law n h port o (Some status) outcome is lies told = rw told (stopped_left n h port o status is lies)
-write_left law n h port o None outcome is lies decided = load_left law n h port o decided.load outcome is lies decided.decides decided.told
+write_left law n h port o (Some status) outcome is lies reported = rw reported (stopped_left n h port o status is lies)
+write_left law n h port o None outcome is lies decided = load_left law n h port o decided.load outcome is lies decided.decides decided.reported
 
 -- ---- the headline
 
@@ -181,7 +181,7 @@ ends_by law n h (Peak port) outcome done end = absurd end.ended
 ends_by law n h (Effect port) outcome done end = effect_ends n h port end.verdict end.command outcome end.is_open done end.ended
 ends_by law n h (Publish port) outcome done end = write_left law n h port end.command (judged_line (command_of end.command.packet) end.verdict) outcome end.is_open end.ended.0 end.ended.1
 
-judged_once : ImagesAreRead → JustifiedIsSafe → TurnsArePaths → (n : Node) (h : History) (event : Event) (outcome : Outcome) → IsNode n → HasBytes h → IsLawfulButTold n (Then h event outcome) → IsDone outcome → IsJudgedOnce n h event outcome
+judged_once : ImagesAreRead → JustifiedIsSafe → TurnsArePaths → (n : Node) (h : History) (event : Event) (outcome : Outcome) → IsNode n → HasBytes h → IsLawfulExceptAnswers n (Then h event outcome) → IsDone outcome → IsTakenOnceDoneOnce n h event outcome
 judged_once law safety paths n h event outcome node bytes lawful done =
     let end = lawful_end n h event outcome done lawful.1 in
     let o = end.command in
@@ -189,7 +189,7 @@ judged_once law safety paths n h event outcome node bytes lawful done =
     let first = began_lawful n (port_of event) _ h leads lawful.0 in
     let justified = published_justified law n o.before (slot_of_packet n o.packet) node first.0 in
     let safe = safety (program_of n o) n.sizes justified in
-    let told = generation_told n o.before (port_of event) o.packet o.generation first.1 in
+    let reported = generation_reported n o.before (port_of event) o.packet o.generation first.1 in
     let words = open_words n h (port_of event) o lawful.0 end.is_open in
     let kept = taken_kept n o.before (port_of event) o.packet o.generation first.1 in
     let header = header_of_command o.packet kept (began_bytes (port_of event) _ h leads bytes).1 in
@@ -199,15 +199,15 @@ judged_once law safety paths n h event outcome node bytes lawful done =
       taken = o;
       is_open = end.is_open;
       once = leads;
-      alone = λ earlier e status reply loaded own begins. opened_behind_done earlier h e status reply loaded o begins (ap (opened h) own ∙ end.is_open);
-      judged_by = ap (λ (generation : ℕ). (program_of n o, generation)) told;
+      alone = λ earlier e status reply loaded own begins. opened_after_done earlier h e status reply loaded o begins (ap (opened h) own ∙ end.is_open);
+      judged_by = ap (λ (generation : ℕ). (program_of n o, generation)) reported;
       justified = justified;
       safe = safe;
       header = header;
       words = words;
       verdict = end.verdict;
       stands = end.stands;
-      run = ((paths (program_of n o) n.sizes (header_in o.packet) (port_of event) o.answers safe header low words).ends end.verdict).0 end.stands;
+      run = ((paths (program_of n o) n.sizes (seen_header_in o.packet) (port_of event) o.answers safe header low words).ends end.verdict).0 end.stands;
       ended = ends_by law n h event outcome done end;
     }
 
@@ -217,16 +217,16 @@ every_history_judges_once law safety paths n h event status reply loaded node by
 
 -- ---- whole histories
 
-once_if_done : EveryHistoryJudgesOnce → (n : Node) (h : History) (event : Event) (outcome : Outcome) → IsNode n → HasBytes h → IsLawfulButTold n (Then h event outcome) → IsJudgedOnceIfDone n h event outcome
+once_if_done : EveryHistoryJudgesOnce → (n : Node) (h : History) (event : Event) (outcome : Outcome) → IsNode n → HasBytes h → IsLawfulExceptAnswers n (Then h event outcome) → IsJudgedOnceIfDone n h event outcome
 once_if_done law n h event Refused node bytes lawful = tt
 once_if_done law n h event (Discarded discard) node bytes lawful = tt
 once_if_done law n h event (Answered status reply) node bytes lawful = tt
 once_if_done law n h event (Taken generation) node bytes lawful = tt
-once_if_done law n h event (Told told) node bytes lawful = tt
+once_if_done law n h event (Told reported) node bytes lawful = tt
 once_if_done law n h event (Done status reply loaded) node bytes lawful = law n h event status reply loaded node bytes lawful
 
 -- each command that is done in a lawful history is judged once
-pub all_judged_once : EveryHistoryJudgesOnce → (n : Node) (h : History) → IsNode n → HasBytes h → IsLawfulButTold n h → AreJudgedOnce n h
+pub all_judged_once : EveryHistoryJudgesOnce → (n : Node) (h : History) → IsNode n → HasBytes h → IsLawfulExceptAnswers n h → AreJudgedOnce n h
 all_judged_once law n Start node bytes lawful = tt
 all_judged_once law n (Then h event outcome) node bytes lawful =
     (all_judged_once law n h node bytes.0 lawful.0, once_if_done law n h event outcome node bytes.0 lawful)

@@ -5,7 +5,7 @@ use Rattle.sched.specs.declared.event.Outcome.{Outcome}
 use Rattle.sched.specs.Headline.{BringsBytes, HasBytes}
 use Rattle.sched.specs.History.{History, Then, history_from}
 use Rattle.sched.specs.Looking.{Node}
-use Rattle.sched.specs.Worlds.{WorldValue, IsLawfulWorld, GoesOn}
+use Rattle.sched.specs.Worlds.{WorldValue, IsLawfulWorld, GoesOnLawfully}
 
 -- one event more, with its outcome, at the end
 history-push : (h : History) (events : List Event) (outcomes : List Outcome) (event : Event) (outcome : Outcome) → length events ≡ length outcomes
@@ -24,7 +24,7 @@ bytes_grown h events outcomes more event outcome same grown bytes brings =
 
 -- the world after one event more is that of the history with it
 pub history_grown : (n : Node) (h : History) (events : List Event) (outcomes more : List Outcome) (event : Event) (outcome : Outcome) (old new : WorldValue)
-    → length events ≡ length outcomes → more ≡ outcomes ++ outcome ∷ [] → IsLawfulWorld n (history_from h events outcomes) old → GoesOn event outcome old new
+    → length events ≡ length outcomes → more ≡ outcomes ++ outcome ∷ [] → IsLawfulWorld n (history_from h events outcomes) old → GoesOnLawfully event outcome old new
     → IsLawfulWorld n (history_from h (events ++ event ∷ []) more) new
 history_grown n h events outcomes more event outcome old new same grown world goes =
     rw (grown, history-push h events outcomes event outcome same) (goes n (history_from h events outcomes) world)

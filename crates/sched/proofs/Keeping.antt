@@ -7,14 +7,14 @@ use Rattle.std.proofs.lemmas.Option.{slice_get-get_or}
 use Rattle.rmap.specs.Windows.{WindowsValue}
 use Rattle.machine.specs.Sizes.{Maps, IsInside}
 use Rattle.bank.specs.Records.{BankValue}
-use Rattle.sched.specs.Worlds.{RunValue, PortValue, WorldValue, IsSameRun, IsSameRunIfAny, IsRunUnder, IsRunUnderIfAny, IsPortIn, ArePortsIn, IsWorld}
-use Rattle.plain_cells.specs.Words.{AreCells, word_at, word_in, word_of}
+use Rattle.sched.specs.Worlds.{RunValue, PortValue, WorldValue, IsSameCommandRun, IsSameRunIfAny, IsRunUnder, IsRunUnderIfAny, IsPortIn, ArePortsIn, IsWorld}
+use Rattle.plain_cells.specs.Words.{AreCells, key_word_at, word_in, word_of_key}
 use Rattle.sched.proofs.Growth.{at_written}
 use Rattle.lemmas.proofs.Places.{at_other}
 use Rattle.plain_cells.proofs.Zeros.{cell_there}
 
 -- the same command is judged under the same windows
-same_under : (windows : WindowsValue) (sizes : Maps) (old new : RunValue) → IsSameRun old new → IsRunUnder windows sizes old → IsRunUnder windows sizes new
+same_under : (windows : WindowsValue) (sizes : Maps) (old new : RunValue) → IsSameCommandRun old new → IsRunUnder windows sizes old → IsRunUnder windows sizes new
 same_under windows sizes old new same is = record {
   placed = rw (same.packet_is, same.place_is) is.placed;
   sizes_are = rw same.program_is is.sizes_are;
@@ -63,7 +63,7 @@ world_with_port w port old new there fits is = record {
 -- ---- words
 
 -- and its word is found
-pub word_inside : (sizes : Maps) (words : List (List ℕ)) (map key : ℕ) → AreCells sizes words → IsInside sizes map key → word_in words map key ≡ Some (word_at words map key)
+pub word_inside : (sizes : Maps) (words : List (List ℕ)) (map key : ℕ) → AreCells sizes words → IsInside sizes map key → word_in words map key ≡ Some (key_word_at words map key)
 word_inside sizes words map key are inside =
     let there = cell_there sizes words map key inside are in
-    ap (λ (row : Option (List ℕ)). word_of row key) (slice_get-get_or words map [] there.0) ∙ slice_get-get_or (get_or words map []) key 0 there.1
+    ap (λ (row : Option (List ℕ)). word_of_key row key) (slice_get-get_or words map [] there.0) ∙ slice_get-get_or (get_or words map []) key 0 there.1

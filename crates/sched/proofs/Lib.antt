@@ -3,7 +3,7 @@ pub mod Runs
 pub mod Growth
 pub mod Keeping
 pub mod Outcomes
-pub mod Telling
+pub mod Reporting
 pub mod Taking
 pub mod Beginning
 pub mod Entering

@@ -14,7 +14,7 @@ use Rattle.bver_form.specs.declared.refusal.Refusal.TheVariants as refusals
 use Rattle.bver_form.specs.declared.refusal.Refused.{Refused}
 use Rattle.bver.specs.Justified.{AcceptedValue, IsJustified}
 use Rattle.bver.specs.Refusals.{IsRefusal}
-use Rattle.bver.specs.Unjustified.{TellsUnjustified}
+use Rattle.bver.specs.Unjustified.{ReportsUnjustified}
 use Rattle.bank.specs.Limits.{is_ports}
 use Rattle.bank.specs.Records.{BankValue, first_share}
 use Rattle.node_parts.specs.declared.config.BankConfig.{BankConfig}
@@ -152,12 +152,12 @@ made_of config factory w a is = record {
 
 -- what a limit of a node is to a world
 limited : (limit : Option NodeFault) (refused : NodeFault) (fault : WorldFault) → limit ≡ Some nodes.Ports ⊎ (limit ≡ Some nodes.Banks ⊎ limit ≡ None) → IsNodeFault limit refused → fault ≡ fault_of_node refused → IsUnmade limit fault
-limited None refused fault which is told = told ∙ ap fault_of_node is
-limited (Some nodes.Ports) refused fault which is told = told ∙ ap fault_of_node is
-limited (Some nodes.Banks) refused fault which is told = told ∙ ap fault_of_node is
-limited (Some nodes.Memory) refused fault (inl is_ports) is told = absurd cc
-limited (Some nodes.Memory) refused fault (inr (inl is_banks)) is told = absurd cc
-limited (Some nodes.Memory) refused fault (inr (inr none)) is told = absurd cc
+limited None refused fault which is reported = reported ∙ ap fault_of_node is
+limited (Some nodes.Ports) refused fault which is reported = reported ∙ ap fault_of_node is
+limited (Some nodes.Banks) refused fault which is reported = reported ∙ ap fault_of_node is
+limited (Some nodes.Memory) refused fault (inl is_ports) is reported = absurd cc
+limited (Some nodes.Memory) refused fault (inr (inl is_banks)) is reported = absurd cc
+limited (Some nodes.Memory) refused fault (inr (inr none)) is reported = absurd cc
 
 limits : (config : NodeConfig) → limit_fault config ≡ Some nodes.Ports ⊎ (limit_fault config ≡ Some nodes.Banks ⊎ limit_fault config ≡ None)
 limits config = by (not (is_ports config.ports)) (not (are_within config.banks.now))
@@ -169,22 +169,22 @@ limits config = by (not (is_ports config.ports)) (not (are_within config.banks.n
 
 -- why there are no banks is why there is no world
 pub limit_unmade : (config : NodeConfig) (refused : NodeFault) (fault : WorldFault) → IsNodeFault (limit_fault config) refused → fault ≡ fault_of_node refused → IsUnmade (limit_fault config) fault
-limit_unmade config refused fault is told = limited (limit_fault config) refused fault (limits config) is told
+limit_unmade config refused fault is reported = limited (limit_fault config) refused fault (limits config) is reported
 
 pub unmade_world : (limit : Option NodeFault) (maps : Maps) (factory : Program) (fault : WorldFault) → IsUnmade limit fault → IsWorldFault limit maps factory fault
 unmade_world None maps factory fault is = inl is
 unmade_world (Some limit) maps factory fault is = is
 
 pub limit_of_world : (config : NodeConfig) (refused : NodeFault) (factory : Program) (fault : WorldFault) → IsNodeFault (limit_fault config) refused → fault ≡ fault_of_node refused → IsWorldFault (limit_fault config) config.sizes factory fault
-limit_of_world config refused factory fault is told = unmade_world (limit_fault config) config.sizes factory fault (limit_unmade config refused fault is told)
+limit_of_world config refused factory fault is reported = unmade_world (limit_fault config) config.sizes factory fault (limit_unmade config refused fault is reported)
 
 -- what comes after the limits is why there is no world
-pub behind_limits : (limit : Option NodeFault) (maps : Maps) (factory : Program) (fault : WorldFault) → limit ≡ None → IsWorldFault None maps factory fault → IsWorldFault limit maps factory fault
-behind_limits limit maps factory fault none is = subst (λ (l : Option NodeFault). IsWorldFault l maps factory fault) (sym none) is
+pub after_limits : (limit : Option NodeFault) (maps : Maps) (factory : Program) (fault : WorldFault) → limit ≡ None → IsWorldFault None maps factory fault → IsWorldFault limit maps factory fault
+after_limits limit maps factory fault none is = subst (λ (l : Option NodeFault). IsWorldFault l maps factory fault) (sym none) is
 
 -- a refusal of the verifier is why there is no world
-pub refused_world : (maps : Maps) (factory : Program) (refused : Refused) (fault : WorldFault) → IsRefusal factory refused → TellsUnjustified factory maps refused → fault ≡ fault_of_refusal refused.code → IsWorldFault None maps factory fault
-refused_world maps factory refused fault why unjustified told = by (wants_verifier_memory refused.code) refl told
+pub refused_world : (maps : Maps) (factory : Program) (refused : Refused) (fault : WorldFault) → IsRefusal factory refused → ReportsUnjustified factory maps refused → fault ≡ fault_of_refusal refused.code → IsWorldFault None maps factory fault
+refused_world maps factory refused fault why unjustified reported = by (wants_verifier_memory refused.code) refl reported
   where
     by : (wants : Bool) → wants_verifier_memory refused.code ≡ wants → fault ≡ (if wants then NoMemory else Image) → (fault ≡ NoMemory) ⊎ ((fault ≡ Image) × IsFactoryRefused maps factory)
     by true wants is = inl is

@@ -8,17 +8,17 @@ use Rattle.sched.specs.declared.event.Event.TheVariants.{Take, Count, Ticket, Pe
 use Rattle.sched.specs.declared.event.Outcome.{Outcome}
 use Rattle.sched.specs.declared.event.Outcome.TheVariants.{Refused, Discarded, Answered, Taken, Told, Done}
 use Rattle.sched.specs.History.{History, Then, port_of, opened}
-use Rattle.sched.specs.Lawful.{IsLawful, IsOutcomeAtButTold, IsPublishOutcome, IsSomeTold, IsToldBy, IsToldOf, effect_outcome, take_outcome, told_of_cell}
+use Rattle.sched.specs.Lawful.{IsLawful, IsOutcomeAtExceptAnswer, IsPublishOutcome, IsSomeAnswer, IsAnsweredBy, IsAnswerOf, effect_outcome, take_outcome, answer_of_cell}
 use Rattle.sched.specs.Looking.{Node, argument_asked, cell_asked, turn_at}
 
 -- what the event of a helper comes to, if a program asks it for that cell
-abbrev pub told_on : Node → History → Helper → (argument : ℕ) → Option (ℕ × ℕ) → Outcome
-told_on n h helper argument None = Refused
-told_on n h helper argument (Some cell) = Told (told_of_cell n h helper cell.0 cell.1 argument)
+abbrev pub answered_on : Node → History → Helper → (argument : ℕ) → Option (ℕ × ℕ) → Outcome
+answered_on n h helper argument None = Refused
+answered_on n h helper argument (Some cell) = Told (answer_of_cell n h helper cell.0 cell.1 argument)
 
 -- the same at a port, by where its program is
 abbrev pub helper_outcome : Node → History → Helper → Option Turn → Outcome
-helper_outcome n h helper turn = told_on n h helper (argument_asked turn) (cell_asked helper turn)
+helper_outcome n h helper turn = answered_on n h helper (argument_asked turn) (cell_asked helper turn)
 
 -- what an event comes to at a port of the node
 abbrev pub IsOutcomeAt : Node → History → Event → Outcome → Type 0
@@ -35,33 +35,33 @@ pub record IsOutcome (n : Node) (h : History) (event : Event) (outcome : Outcome
   pub nowhere : n.ports ≤ port_of event → outcome ≡ Refused
 
 -- what an outcome answers is a word
-abbrev pub TellsWord : Outcome → Type 0
-TellsWord Refused = Unit {0}
-TellsWord (Discarded discard) = Unit {0}
-TellsWord (Answered status reply) = Unit {0}
-TellsWord (Taken generation) = Unit {0}
-TellsWord (Told told) = told < 2 ^ 64
-TellsWord (Done status reply loaded) = Unit {0}
+abbrev pub AnswersWord : Outcome → Type 0
+AnswersWord Refused = Unit {0}
+AnswersWord (Discarded discard) = Unit {0}
+AnswersWord (Answered status reply) = Unit {0}
+AnswersWord (Taken generation) = Unit {0}
+AnswersWord (Told reported) = reported < 2 ^ 64
+AnswersWord (Done status reply loaded) = Unit {0}
 
 -- ---- a word that is the answer is some word, and the one that looking back gives
 
-told_parted : (n : Node) (h : History) (helper : Helper) (argument : ℕ) (cell : Option (ℕ × ℕ)) (outcome : Outcome) → outcome ≡ told_on n h helper argument cell → TellsWord outcome
-    → IsSomeTold cell outcome × IsToldOf n h helper argument cell outcome
-told_parted n h helper argument None outcome is word = (is, tt)
-told_parted n h helper argument (Some cell) outcome is word =
-    ((told_of_cell n h helper cell.0 cell.1 argument, subst TellsWord is word, is), is)
+answered_parted : (n : Node) (h : History) (helper : Helper) (argument : ℕ) (cell : Option (ℕ × ℕ)) (outcome : Outcome) → outcome ≡ answered_on n h helper argument cell → AnswersWord outcome
+    → IsSomeAnswer cell outcome × IsAnswerOf n h helper argument cell outcome
+answered_parted n h helper argument None outcome is word = (is, tt)
+answered_parted n h helper argument (Some cell) outcome is word =
+    ((answer_of_cell n h helper cell.0 cell.1 argument, subst AnswersWord is word, is), is)
 
-at_parted : (n : Node) (h : History) (event : Event) (outcome : Outcome) → IsOutcomeAt n h event outcome → TellsWord outcome → IsOutcomeAtButTold n h event outcome × IsToldBy n h event outcome
+at_parted : (n : Node) (h : History) (event : Event) (outcome : Outcome) → IsOutcomeAt n h event outcome → AnswersWord outcome → IsOutcomeAtExceptAnswer n h event outcome × IsAnsweredBy n h event outcome
 at_parted n h (Take port p) outcome is word = (is, tt)
-at_parted n h (Count port) outcome is word = told_parted n h helpers.Count (argument_asked (turn_at n h port)) (cell_asked helpers.Count (turn_at n h port)) outcome is word
-at_parted n h (Ticket port) outcome is word = told_parted n h helpers.Ticket (argument_asked (turn_at n h port)) (cell_asked helpers.Ticket (turn_at n h port)) outcome is word
-at_parted n h (Peak port) outcome is word = told_parted n h helpers.Peak (argument_asked (turn_at n h port)) (cell_asked helpers.Peak (turn_at n h port)) outcome is word
+at_parted n h (Count port) outcome is word = answered_parted n h helpers.Count (argument_asked (turn_at n h port)) (cell_asked helpers.Count (turn_at n h port)) outcome is word
+at_parted n h (Ticket port) outcome is word = answered_parted n h helpers.Ticket (argument_asked (turn_at n h port)) (cell_asked helpers.Ticket (turn_at n h port)) outcome is word
+at_parted n h (Peak port) outcome is word = answered_parted n h helpers.Peak (argument_asked (turn_at n h port)) (cell_asked helpers.Peak (turn_at n h port)) outcome is word
 at_parted n h (Effect port) outcome is word = (is, tt)
 at_parted n h (Publish port) outcome is word = (is, tt)
 
 -- a lawful history goes on lawfully
-pub then_lawful : (n : Node) (h : History) (event : Event) (outcome : Outcome) → IsLawful n h → IsOutcome n h event outcome → TellsWord outcome → IsLawful n (Then h event outcome)
+pub then_lawful : (n : Node) (h : History) (event : Event) (outcome : Outcome) → IsLawful n h → IsOutcome n h event outcome → AnswersWord outcome → IsLawful n (Then h event outcome)
 then_lawful n h event outcome lawful is word = record {
-  but_told = (lawful.but_told, record { here = λ below. (at_parted n h event outcome (is.here below) word).0; nowhere = is.nowhere });
-  told = (lawful.told, λ below. (at_parted n h event outcome (is.here below) word).1);
+  except_answers = (lawful.except_answers, record { here = λ below. (at_parted n h event outcome (is.here below) word).0; nowhere = is.nowhere });
+  reported = (lawful.reported, λ below. (at_parted n h event outcome (is.here below) word).1);
 }

@@ -18,8 +18,8 @@ use Rattle.sched.specs.declared.control.Decision.TheVariants.{Stopped, NotLoaded
 use Rattle.sched.specs.declared.event.Event.TheVariants.{Publish}
 use Rattle.sched.specs.declared.event.Outcome.{Outcome}
 use Rattle.sched.specs.declared.event.Outcome.TheVariants.{Refused, Done}
-use Rattle.sched.specs.Ends.{IsDecisionBy, IsDecisionOf, IsLoadDecision, IsReplyTo, IsWriteUnder, ShowsInSlot, after_write, count_shown, load_result_of_decision, programs_shown, status_of_decision}
-use Rattle.sched.specs.Worlds.{RunValue, PortValue, WorldValue, AreAcceptedFor, GoesOn, IsRunUnderIfAny, IsWorld, publish_due}
+use Rattle.sched.specs.Ends.{IsDecisionBy, IsDecisionOf, IsLoadDecision, IsReplyTo, IsWriteUnder, ShowsInSlot, after_control_write, count_shown, load_result_of_decision, programs_shown, status_of_decision}
+use Rattle.sched.specs.Worlds.{RunValue, PortValue, WorldValue, AreAcceptedFor, GoesOnLawfully, IsRunUnderIfAny, IsWorld, publish_due}
 use Rattle.sched.proofs.Ending.{IsJudgedIn}
 use Rattle.sched.proofs.Events.{IsRead, below, read_again, there}
 use Rattle.sched.proofs.Finishing.{run_under}
@@ -94,9 +94,9 @@ shown_accepted run staged verdict sizes count decision programs is are = accepte
 -- ---- Publish
 
 -- Publish, if none is due
-pub publish_none : (old w : WorldValue) (place port : ℕ) (p : PortValue) → IsRead old w place port p → None ≡ publish_due p.run → GoesOn (Publish port) Refused old old
+pub publish_none : (old w : WorldValue) (place port : ℕ) (p : PortValue) → IsRead old w place port p → None ≡ publish_due p.run → GoesOnLawfully (Publish port) Refused old old
 publish_none old w place port p is none =
-    subst (λ (v : WorldValue). GoesOn (Publish port) Refused v v) is.is (publish_refused w port p (there old w place port p is) (below old w place port p is) none)
+    subst (λ (v : WorldValue). GoesOnLawfully (Publish port) Refused v v) is.is (publish_refused w port p (there old w place port p is) (below old w place port p is) none)
 
 -- a port that was read, whose control write has its verdict, read again
 pub record IsPublishDueAt (old w : WorldValue) (place port verdict : ℕ) (p q : PortValue) : Type 0 where
@@ -128,7 +128,7 @@ pub record IsPublishAt (old w : WorldValue) (place port verdict : ℕ) (p q r : 
   pub status_is : status ≡ status_of_decision decision
   pub loaded_is : loaded ≡ load_result_of_decision decision
   pub reply_is : IsReplyTo q.run status reply
-  pub written : r ≡ after_write loaded q
+  pub written : r ≡ after_control_write loaded q
 
 publish_world : (old w : WorldValue) (place port verdict : ℕ) (p q r : PortValue) (decision : Decision) (status : Status) (loaded : Option (List ℕ)) (reply : List ℕ) → IsPublishAt old w place port verdict p q r decision status loaded reply → IsWorld w
     → IsWorld (record w { programs = programs_shown w.programs decision; count = count_shown w.count decision; ports = slice_set w.ports place r })
@@ -145,24 +145,24 @@ publish_world old w place port verdict p q r decision status loaded reply is fit
       ports = all.ports;
     }
 
-publish_ends : (old w : WorldValue) (place port verdict : ℕ) (p q r : PortValue) (decision : Decision) (status : Status) (loaded : Option (List ℕ)) (reply told : List ℕ) → ImagesAreRead
-    → IsPublishAt old w place port verdict p q r decision status loaded reply → told ≡ reply
-    → GoesOn (Publish port) (Done status told loaded) old (record w { programs = programs_shown w.programs decision; count = count_shown w.count decision; ports = slice_set w.ports place r })
-publish_ends old w place port verdict p q r decision status loaded reply told law is same =
+publish_ends : (old w : WorldValue) (place port verdict : ℕ) (p q r : PortValue) (decision : Decision) (status : Status) (loaded : Option (List ℕ)) (reply reported : List ℕ) → ImagesAreRead
+    → IsPublishAt old w place port verdict p q r decision status loaded reply → reported ≡ reply
+    → GoesOnLawfully (Publish port) (Done status reported loaded) old (record w { programs = programs_shown w.programs decision; count = count_shown w.count decision; ports = slice_set w.ports place r })
+publish_ends old w place port verdict p q r decision status loaded reply reported law is same =
     let due = publish_due_there old w place port verdict p q is.due in
     let read = is.due.read in
     let judged : IsJudgedIn w port verdict q due.r = record { there = there old w place port q read; below = below old w place port q read; run_is = due.run_is; turn_is = due.turn_is } in
     let decides = subst (λ (run : Option RunValue). IsDecisionOf run q.staging.bytes verdict w.sizes w.count decision) due.run_is is.decides in
     let made = publish_goes_on w port verdict q due.r decision law (record { judged = judged; control = due.control }) decides in
     let replied = subst (λ (run : Option RunValue). IsReplyTo run status reply) due.run_is is.reply_is in
-    let bytes : told ≡ reply_of (command_of due.r.packet) (status_of_decision decision) [] = same ∙ replied ∙ ap (λ (s : Status). reply_of (command_of due.r.packet) s []) is.status_is in
-    let outcome : Done status told loaded ≡ outcome_of (command_of due.r.packet) decision =
-    ap (λ (s : Status). Done s told loaded) is.status_is ∙ ap (λ (b : List ℕ). Done (status_of_decision decision) b loaded) bytes ∙ ap (Done (status_of_decision decision) (reply_of (command_of due.r.packet) (status_of_decision decision) [])) is.loaded_is in
-    let port_is : r ≡ after_write (load_result_of_decision decision) q = is.written ∙ ap (λ (l : Option (List ℕ)). after_write l q) is.loaded_is in
-    let with_port = subst (λ (v : PortValue). GoesOn (Publish port) (outcome_of (command_of due.r.packet) decision) w (record w { programs = programs_shown w.programs decision; count = count_shown w.count decision; ports = slice_set w.ports port v })) (sym port_is) made in
-    let at_place = subst (λ (k : ℕ). GoesOn (Publish port) (outcome_of (command_of due.r.packet) decision) w (record w { programs = programs_shown w.programs decision; count = count_shown w.count decision; ports = slice_set w.ports k r })) (sym read.place_is) with_port in
-    let of_old = subst (λ (v : WorldValue). GoesOn (Publish port) (outcome_of (command_of due.r.packet) decision) v (record w { programs = programs_shown w.programs decision; count = count_shown w.count decision; ports = slice_set w.ports place r })) read.is at_place in
-    subst (λ (x : Outcome). GoesOn (Publish port) x old (record w { programs = programs_shown w.programs decision; count = count_shown w.count decision; ports = slice_set w.ports place r })) (sym outcome) of_old
+    let bytes : reported ≡ reply_of (command_of due.r.packet) (status_of_decision decision) [] = same ∙ replied ∙ ap (λ (s : Status). reply_of (command_of due.r.packet) s []) is.status_is in
+    let outcome : Done status reported loaded ≡ outcome_of (command_of due.r.packet) decision =
+    ap (λ (s : Status). Done s reported loaded) is.status_is ∙ ap (λ (b : List ℕ). Done (status_of_decision decision) b loaded) bytes ∙ ap (Done (status_of_decision decision) (reply_of (command_of due.r.packet) (status_of_decision decision) [])) is.loaded_is in
+    let port_is : r ≡ after_control_write (load_result_of_decision decision) q = is.written ∙ ap (λ (l : Option (List ℕ)). after_control_write l q) is.loaded_is in
+    let with_port = subst (λ (v : PortValue). GoesOnLawfully (Publish port) (outcome_of (command_of due.r.packet) decision) w (record w { programs = programs_shown w.programs decision; count = count_shown w.count decision; ports = slice_set w.ports port v })) (sym port_is) made in
+    let at_place = subst (λ (k : ℕ). GoesOnLawfully (Publish port) (outcome_of (command_of due.r.packet) decision) w (record w { programs = programs_shown w.programs decision; count = count_shown w.count decision; ports = slice_set w.ports k r })) (sym read.place_is) with_port in
+    let of_old = subst (λ (v : WorldValue). GoesOnLawfully (Publish port) (outcome_of (command_of due.r.packet) decision) v (record w { programs = programs_shown w.programs decision; count = count_shown w.count decision; ports = slice_set w.ports place r })) read.is at_place in
+    subst (λ (x : Outcome). GoesOnLawfully (Publish port) x old (record w { programs = programs_shown w.programs decision; count = count_shown w.count decision; ports = slice_set w.ports place r })) (sym outcome) of_old
 
 -- what was decided of a port that was read is decided of it as it is read again
 pub decided_again : (old w : WorldValue) (place port verdict : ℕ) (p q : PortValue) (decision : Decision) → IsRead old w place port p → IsRead old w place port q → IsDecisionOf p.run p.staging.bytes verdict w.sizes w.count decision
@@ -180,8 +180,8 @@ pub published_world : (old w : WorldValue) (place port verdict : ℕ) (p q r : P
 published_world old w place port verdict p q r decision status loaded reply programs count is shown fits =
     rw (shown.programs_are, shown.count_is) (publish_world old w place port verdict p q r decision status loaded reply is fits)
 
-pub published_ends : (old w : WorldValue) (place port verdict : ℕ) (p q r : PortValue) (decision : Decision) (status : Status) (loaded : Option (List ℕ)) (reply told : List ℕ) (programs : List (AcceptedValue × ℕ)) (count : ℕ) → ImagesAreRead
-    → IsPublishAt old w place port verdict p q r decision status loaded reply → IsShownAfter w decision programs count → told ≡ reply
-    → GoesOn (Publish port) (Done status told loaded) old (record w { programs = programs; count = count; ports = slice_set w.ports place r })
-published_ends old w place port verdict p q r decision status loaded reply told programs count law is shown same =
-    rw (shown.programs_are, shown.count_is) (publish_ends old w place port verdict p q r decision status loaded reply told law is same)
+pub published_ends : (old w : WorldValue) (place port verdict : ℕ) (p q r : PortValue) (decision : Decision) (status : Status) (loaded : Option (List ℕ)) (reply reported : List ℕ) (programs : List (AcceptedValue × ℕ)) (count : ℕ) → ImagesAreRead
+    → IsPublishAt old w place port verdict p q r decision status loaded reply → IsShownAfter w decision programs count → reported ≡ reply
+    → GoesOnLawfully (Publish port) (Done status reported loaded) old (record w { programs = programs; count = count; ports = slice_set w.ports place r })
+published_ends old w place port verdict p q r decision status loaded reply reported programs count law is shown same =
+    rw (shown.programs_are, shown.count_is) (publish_ends old w place port verdict p q r decision status loaded reply reported law is same)

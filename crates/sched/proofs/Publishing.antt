@@ -34,26 +34,26 @@ use Rattle.sched.specs.declared.event.Outcome.{Outcome}
 use Rattle.sched.specs.declared.event.Outcome.TheVariants.{Refused, Done}
 use Rattle.sched.specs.declared.control.Decision.{Decision}
 use Rattle.sched.specs.declared.control.Decision.TheVariants.{Stopped, NotLoaded, Loaded}
-use Rattle.sched.specs.Ends.{IsDecisionBy, IsLoadDecision, after_write, count_shown, load_result_kept, load_result_of_decision, programs_shown, status_of_decision}
+use Rattle.sched.specs.Ends.{IsDecisionBy, IsLoadDecision, after_control_write, count_shown, load_result_kept, load_result_of_decision, programs_shown, status_of_decision}
 use Rattle.sched.specs.History.{History, Then, Open, opened}
 use Rattle.sched.specs.Lawful.{IsLawful, IsControlled, IsLoaded, IsPublishedAt, IsPublishedBy, IsPublishOutcome}
-use Rattle.sched.specs.Looking.{Node, place_in, turn_of, staging, staged_at, staged_behind, for_slot, program_loaded, loaded_by, published_at, counted, publishes, published_behind, published, entries}
-use Rattle.sched.specs.Worlds.{RunValue, PortValue, WorldValue, AreProgramsOf, GoesOn, IsFor, IsJudging, IsLawfulWorld, IsPortOf, IsShareWith, IsShownAs, IsWorldOf, publish_due, publish_due_at, verdict_of_turn}
+use Rattle.sched.specs.Looking.{Node, place_in, turn_of, staging, staged_at, staged_after, for_slot, program_loaded, loaded_by, published_at, counted_publish, publishes, published_after_count, published, entries}
+use Rattle.sched.specs.Worlds.{RunValue, PortValue, WorldValue, AreProgramsOf, GoesOnLawfully, IsFor, IsJudging, IsLawfulWorld, IsPortOf, IsShareWith, IsShownAs, IsWorldOf, publish_due, publish_due_at, verdict_of_turn}
 use Rattle.sched.proofs.Outcomes.{then_lawful}
-use Rattle.sched.proofs.Growth.{IsPortBehind, ports_changed, left_all}
+use Rattle.sched.proofs.Growth.{IsPortAfter, ports_changed, left_all}
 use Rattle.lemmas.proofs.Places.{at_other}
 use Rattle.sched.proofs.Ending.{IsJudgedIn, banks_same, entries_stay, lies_at, open_run, stands_at}
-use Rattle.sched.proofs.Telling.{outcome_here}
+use Rattle.sched.proofs.Reporting.{outcome_here}
 
 -- ---- what is told
 
 -- if a control write of the port has its verdict, its end is by what stops it
-publish_told : (n : Node) (h : History) (port verdict : ℕ) (o : Open) (outcome : Outcome) → opened h port ≡ Some o → turn_of n port o ≡ Some (turns.Verdict verdict) → place_in n o.packet ≡ Some places.Control
+publish_reported : (n : Node) (h : History) (port verdict : ℕ) (o : Open) (outcome : Outcome) → opened h port ≡ Some o → turn_of n port o ≡ Some (turns.Verdict verdict) → place_in n o.packet ≡ Some places.Control
     → IsControlled n h port (command_of o.packet) (judged_line (command_of o.packet) verdict) outcome → IsPublishOutcome n h port (opened h port) outcome
-publish_told n h port verdict o outcome is stands lies told =
+publish_reported n h port verdict o outcome is stands lies reported =
     subst (λ (last : Option Open). IsPublishOutcome n h port last outcome) (sym is)
     (subst (λ (turn : Option Turn). IsPublishedBy n h port o turn outcome) (sym stands)
-    (subst (λ (place : Option Place). IsPublishedAt n h port (command_of o.packet) verdict place outcome) (sym lies) told))
+    (subst (λ (place : Option Place). IsPublishedAt n h port (command_of o.packet) verdict place outcome) (sym lies) reported))
 
 -- ---- what is published
 
@@ -70,9 +70,9 @@ loaded_program law n h port slot o a reply result is prepared =
     ap (loaded_by (staging n h port).bytes) is ∙ spelled_program law (command_of o.packet).body (staging n h port).bytes n.sizes slot a prepared
 
 -- the programs with one more of a slot
-programs_behind : (n : Node) (before : ℕ → Program × ℕ) (programs : List (AcceptedValue × ℕ)) (slot count : ℕ) (shown : AcceptedValue × ℕ) → IsFor n shown.0 → shown.1 ≡ count + 1 → AreProgramsOf n before programs
+programs_after : (n : Node) (before : ℕ → Program × ℕ) (programs : List (AcceptedValue × ℕ)) (slot count : ℕ) (shown : AcceptedValue × ℕ) → IsFor n shown.0 → shown.1 ≡ count + 1 → AreProgramsOf n before programs
     → AreProgramsOf n (λ s. if slot == s then (shown.0.program, count + 1) else before s) (set programs slot shown)
-programs_behind n before programs slot count shown accepted generation are = λ s x found. by s x found (slot == s) refl
+programs_after n before programs slot count shown accepted generation are = λ s x found. by s x found (slot == s) refl
   where
     by : (s : ℕ) (x : AcceptedValue × ℕ) → slice_get (set programs slot shown) s ≡ Some x → (own : Bool) → (slot == s) ≡ own → IsShownAs n (if own then (shown.0.program, count + 1) else before s) x
     by s x found true own =
@@ -86,15 +86,15 @@ programs_behind n before programs slot count shown accepted generation are = λ 
 -- ---- the port
 
 -- a control write leaves the staged bytes, and the load result that was decided
-staged_by_write : (n : Node) (o : Open) (status : Status) (loaded : Option (List ℕ)) (s : Staged) → place_in n o.packet ≡ Some places.Control → staged_behind n (Some o) status loaded s ≡ load_result_kept loaded s
+staged_by_write : (n : Node) (o : Open) (status : Status) (loaded : Option (List ℕ)) (s : Staged) → place_in n o.packet ≡ Some places.Control → staged_after n (Some o) status loaded s ≡ load_result_kept loaded s
 staged_by_write n o status None s lies = ap (λ (place : Option Place). staged_at place status (command_of o.packet) s) lies
 staged_by_write n o status (Some result) s lies = refl
 
 port_at_control : (n : Node) (h : History) (port : ℕ) (o : Open) (p : PortValue) (status : Status) (reply : List ℕ) (loaded : Option (List ℕ)) → opened h port ≡ Some o → place_in n o.packet ≡ Some places.Control
     → IsPortOf n port (staging n h port) (opened h port) (entries n h) p
-    → IsPortBehind n h (Publish port) (Done status reply loaded) port (after_write loaded p)
+    → IsPortAfter n h (Publish port) (Done status reply loaded) port (after_control_write loaded p)
 port_at_control n h port o p status reply loaded is lies before = record {
-  staging_is = ap (load_result_kept loaded) before.staging_is ∙ sym (ap (λ (last : Option Open). staged_behind n last status loaded (staging n h port)) is ∙ staged_by_write n o status loaded (staging n h port) lies);
+  staging_is = ap (load_result_kept loaded) before.staging_is ∙ sym (ap (λ (last : Option Open). staged_after n last status loaded (staging n h port)) is ∙ staged_by_write n o status loaded (staging n h port) lies);
   judging = tt;
   count = before.count;
   shares = λ k share there. subst (λ (es : List EntryValue). IsShareWith port (length (numbers_of port es)) share) (sym (entries_stay n h (Publish port) status reply loaded o places.Control is lies tt k)) (before.shares k share there);
@@ -113,14 +113,14 @@ record IsAtControl (n : Node) (h : History) (w : WorldValue) (port verdict : ℕ
   lies : place_in n o.packet ≡ Some places.Control
 
 -- what is published or not, and how many, after a control write
-record IsWorldBehind (n : Node) (h : History) (w : WorldValue) (port : ℕ) (decision : Decision) (reply : List ℕ) : Type 0 where
+record IsWorldAfter (n : Node) (h : History) (w : WorldValue) (port : ℕ) (decision : Decision) (reply : List ℕ) : Type 0 where
   programs : AreProgramsOf n (published n (Then h (Publish port) (Done (status_of_decision decision) reply (load_result_of_decision decision)))) (programs_shown w.programs decision)
   count : count_shown w.count decision ≡ publishes n (Then h (Publish port) (Done (status_of_decision decision) reply (load_result_of_decision decision)))
 
-world_behind : (n : Node) (h : History) (w : WorldValue) (port verdict : ℕ) (p : PortValue) (o : Open) (decision : Decision) (reply : List ℕ) → IsAtControl n h w port verdict p o → IsWorldBehind n h w port decision reply
+world_after_write : (n : Node) (h : History) (w : WorldValue) (port verdict : ℕ) (p : PortValue) (o : Open) (decision : Decision) (reply : List ℕ) → IsAtControl n h w port verdict p o → IsWorldAfter n h w port decision reply
     → IsWorldOf n (Then h (Publish port) (Done (status_of_decision decision) reply (load_result_of_decision decision)))
-    (record w { programs = programs_shown w.programs decision; count = count_shown w.count decision; ports = slice_set w.ports port (after_write (load_result_of_decision decision) p) })
-world_behind n h w port verdict p o decision reply here behind =
+    (record w { programs = programs_shown w.programs decision; count = count_shown w.count decision; ports = slice_set w.ports port (after_control_write (load_result_of_decision decision) p) })
+world_after_write n h w port verdict p o decision reply here following =
     let status = status_of_decision decision in
     let loaded = load_result_of_decision decision in
     let stay = entries_stay n h (Publish port) status reply loaded o places.Control here.is_open here.lies tt in
@@ -129,8 +129,8 @@ world_behind n h w port verdict p o decision reply here behind =
       sizes_are = here.old.sizes_are;
       banks_are = banks_same n (entries n h) (entries n (Then h (Publish port) (Done status reply loaded))) w.banks stay here.old.banks_are;
       words_are = here.old.words_are;
-      programs_are = behind.programs;
-      count_is = behind.count;
+      programs_are = following.programs;
+      count_is = following.count;
       ports_are = ports_changed n h (Publish port) (Done status reply loaded) w.ports p _ here.there (port_at_control n h port o p status reply loaded here.is_open here.lies here.before)
           (λ other k apart. ap (λ (es : List EntryValue). length (numbers_of other es)) (stay k)) here.old.ports_are;
     }
@@ -145,23 +145,23 @@ load_here n h w port verdict p o packet load here same is =
     subst (λ (count : ℕ). IsLoad (control_of (command_of o.packet).body) (staging n h port).bytes n.sizes (count + 1) load) here.old.count_is at_sizes
 
 -- what the outcome says if a load decides
-told_as : (n : Node) (h : History) (port : ℕ) (c : CommandValue) (load : Load) (outcome : Outcome) → IsLoad (control_of c.body) (staging n h port).bytes n.sizes (publishes n h + 1) load → IsLoaded n h c load outcome
+answered_as : (n : Node) (h : History) (port : ℕ) (c : CommandValue) (load : Load) (outcome : Outcome) → IsLoad (control_of c.body) (staging n h port).bytes n.sizes (publishes n h + 1) load → IsLoaded n h c load outcome
     → (line : Option Status) → line ≡ None → IsControlled n h port c line outcome
-told_as n h port c load outcome decides told None none = record { load = load; decides = decides; told = told }
-told_as n h port c load outcome decides told (Some status) none = absurd cc
+answered_as n h port c load outcome decides reported None none = record { load = load; decides = decides; reported = reported }
+answered_as n h port c load outcome decides reported (Some status) none = absurd cc
 
 stopped_as : (n : Node) (h : History) (port : ℕ) (c : CommandValue) (status : Status) (outcome : Outcome) → outcome ≡ Done status (reply_of c status []) None → (line : Option Status) → line ≡ Some status → IsControlled n h port c line outcome
-stopped_as n h port c status outcome told None is = absurd cc
-stopped_as n h port c status outcome told (Some s) is =
+stopped_as n h port c status outcome reported None is = absurd cc
+stopped_as n h port c status outcome reported (Some s) is =
     let same : s ≡ status = cc in
-    rw same told
+    rw same reported
 
 -- the world after a control write
 abbrev pub world_after : WorldValue → (port : ℕ) → PortValue → Decision → WorldValue
 world_after w port p decision = record w {
   programs = programs_shown w.programs decision;
   count = count_shown w.count decision;
-  ports = slice_set w.ports port (after_write (load_result_of_decision decision) p);
+  ports = slice_set w.ports port (after_control_write (load_result_of_decision decision) p);
 }
 
 -- what a control write comes to
@@ -200,19 +200,19 @@ write_of n h w port verdict p r write old =
 -- a control write goes on if its outcome is lawful and the programs are those after it
 write_goes_on : (n : Node) (h : History) (w : WorldValue) (port verdict : ℕ) (p : PortValue) (o : Open) (packet : Cargo) (decision : Decision) → packet ≡ o.packet → IsAtControl n h w port verdict p o → IsLawful n h
     → IsControlled n h port (command_of o.packet) (judged_line (command_of o.packet) verdict) (outcome_of (command_of o.packet) decision)
-    → ((reply : List ℕ) → IsWorldBehind n h w port decision reply) → IsLawfulWorld n (Then h (Publish port) (outcome_of (command_of packet) decision)) (world_after w port p decision)
-write_goes_on n h w port verdict p o packet decision same here lawful told behind =
+    → ((reply : List ℕ) → IsWorldAfter n h w port decision reply) → IsLawfulWorld n (Then h (Publish port) (outcome_of (command_of packet) decision)) (world_after w port p decision)
+write_goes_on n h w port verdict p o packet decision same here lawful reported following =
     let c = command_of o.packet in
     let reply = reply_of c (status_of_decision decision) [] in
     let is : IsLawfulWorld n (Then h (Publish port) (outcome_of c decision)) (world_after w port p decision) = record {
-      lawful = then_lawful n h (Publish port) (outcome_of c decision) lawful (outcome_here n h (Publish port) (outcome_of c decision) w.ports here.below here.old.ports_are.count (publish_told n h port verdict o (outcome_of c decision) here.is_open here.stands here.lies told)) tt;
-      world = world_behind n h w port verdict p o decision reply here (behind reply);
+      lawful = then_lawful n h (Publish port) (outcome_of c decision) lawful (outcome_here n h (Publish port) (outcome_of c decision) w.ports here.below here.old.ports_are.count (publish_reported n h port verdict o (outcome_of c decision) here.is_open here.stands here.lies reported)) tt;
+      world = world_after_write n h w port verdict p o decision reply here (following reply);
     } in
     subst (λ (x : Cargo). IsLawfulWorld n (Then h (Publish port) (outcome_of (command_of x) decision)) (world_after w port p decision)) (sym same) is
 
 -- its verdict or its body stops it
 stopped_write : (w : WorldValue) (port verdict : ℕ) (p : PortValue) (r : RunValue) (status : Status) → IsWriteIn w port verdict p r → judged_line (command_of r.packet) verdict ≡ Some status
-    → GoesOn (Publish port) (outcome_of (command_of r.packet) (Stopped status)) w (world_after w port p (Stopped status))
+    → GoesOnLawfully (Publish port) (outcome_of (command_of r.packet) (Stopped status)) w (world_after w port p (Stopped status))
 stopped_write w port verdict p r status write line n h world =
     let of = write_of n h w port verdict p r write world.world in
     let o = of.command in
@@ -224,19 +224,19 @@ stopped_write w port verdict p r status write line n h world =
 -- its load is refused
 refused_load : (w : WorldValue) (port verdict : ℕ) (p : PortValue) (r : RunValue) (refusal : LoadRefusal) → IsWriteIn w port verdict p r → judged_line (command_of r.packet) verdict ≡ None
     → IsLoad (control_of (command_of r.packet).body) p.staging.bytes w.sizes (w.count + 1) (loads.Refused refusal)
-    → GoesOn (Publish port) (outcome_of (command_of r.packet) (NotLoaded refusal)) w (world_after w port p (NotLoaded refusal))
+    → GoesOnLawfully (Publish port) (outcome_of (command_of r.packet) (NotLoaded refusal)) w (world_after w port p (NotLoaded refusal))
 refused_load w port verdict p r refusal write line decides n h world =
     let of = write_of n h w port verdict p r write world.world in
     let o = of.command in
     let line_here = subst (λ (x : Cargo). judged_line (command_of x) verdict ≡ None) of.packet line in
     write_goes_on n h w port verdict p o r.packet (NotLoaded refusal) of.packet of.here world.lawful
-    (told_as n h port (command_of o.packet) (loads.Refused refusal) _ (load_here n h w port verdict p o r.packet (loads.Refused refusal) of.here of.packet decides) refl (judged_line (command_of o.packet) verdict) line_here)
+    (answered_as n h port (command_of o.packet) (loads.Refused refusal) _ (load_here n h w port verdict p o r.packet (loads.Refused refusal) of.here of.packet decides) refl (judged_line (command_of o.packet) verdict) line_here)
     (λ reply. record { programs = of.here.old.programs_are; count = of.here.old.count_is })
 
 -- its load succeeds
 loaded : (w : WorldValue) (port verdict : ℕ) (p : PortValue) (r : RunValue) (slot : ℕ) (shown : AcceptedValue × ℕ) → ImagesAreRead → IsWriteIn w port verdict p r → judged_line (command_of r.packet) verdict ≡ None
     → IsLoad (control_of (command_of r.packet).body) p.staging.bytes w.sizes (w.count + 1) (loads.Published slot shown.0) → shown.1 ≡ w.count + 1
-    → GoesOn (Publish port) (outcome_of (command_of r.packet) (Loaded slot shown)) w (world_after w port p (Loaded slot shown))
+    → GoesOnLawfully (Publish port) (outcome_of (command_of r.packet) (Loaded slot shown)) w (world_after w port p (Loaded slot shown))
 loaded w port verdict p r slot shown law write line decides generation n h world =
     let of = write_of n h w port verdict p r write world.world in
     let o = of.command in
@@ -244,33 +244,33 @@ loaded w port verdict p r slot shown law write line decides generation n h world
     let line_here = subst (λ (x : Cargo). judged_line (command_of x) verdict ≡ None) of.packet line in
     let decides_here = load_here n h w port verdict p o r.packet (loads.Published slot shown.0) of.here of.packet decides in
     let number : shown.1 ≡ publishes n h + 1 = generation ∙ ap (λ (x : ℕ). x + 1) old.count_is in
-    let told : outcome_of (command_of o.packet) (Loaded slot shown) ≡ Done Success (reply_of (command_of o.packet) Success []) (Some (published_result (publishes n h + 1))) =
+    let reported : outcome_of (command_of o.packet) (Loaded slot shown) ≡ Done Success (reply_of (command_of o.packet) Success []) (Some (published_result (publishes n h + 1))) =
     ap (λ (x : ℕ). Done Success (reply_of (command_of o.packet) Success []) (Some (published_result x))) number in
     let accepted : IsFor n shown.0 = record { sizes = decides_here.0.sizes_are; justified = decides_here.0.justified } in
     let made = λ (reply : List ℕ). loaded_program law n h port slot o shown.0 reply (published_result shown.1) of.here.is_open decides_here.0 in
     write_goes_on n h w port verdict p o r.packet (Loaded slot shown) of.packet of.here world.lawful
-    (told_as n h port (command_of o.packet) (loads.Published slot shown.0) _ decides_here told (judged_line (command_of o.packet) verdict) line_here)
+    (answered_as n h port (command_of o.packet) (loads.Published slot shown.0) _ decides_here reported (judged_line (command_of o.packet) verdict) line_here)
     (λ reply. record {
-      programs = subst (λ (x : Option (ℕ × Program)). AreProgramsOf n (λ s. published_behind x (publishes n h) s (published n h s)) (set w.programs slot shown)) (sym (made reply))
-          (programs_behind n (published n h) w.programs slot (publishes n h) shown accepted number old.programs_are);
-      count = number ∙ sym (ap (λ (x : Option (ℕ × Program)). counted x (publishes n h)) (made reply));
+      programs = subst (λ (x : Option (ℕ × Program)). AreProgramsOf n (λ s. published_after_count x (publishes n h) s (published n h s)) (set w.programs slot shown)) (sym (made reply))
+          (programs_after n (published n h) w.programs slot (publishes n h) shown accepted number old.programs_are);
+      count = number ∙ sym (ap (λ (x : Option (ℕ × Program)). counted_publish x (publishes n h)) (made reply));
     })
 
 -- a control write goes on as was decided
 load_goes_on : (w : WorldValue) (port verdict : ℕ) (p : PortValue) (r : RunValue) (decision : Decision) → ImagesAreRead → IsWriteIn w port verdict p r → judged_line (command_of r.packet) verdict ≡ None
-    → IsLoadDecision (control_of (command_of r.packet).body) p.staging.bytes w.sizes w.count decision → GoesOn (Publish port) (outcome_of (command_of r.packet) decision) w (world_after w port p decision)
+    → IsLoadDecision (control_of (command_of r.packet).body) p.staging.bytes w.sizes w.count decision → GoesOnLawfully (Publish port) (outcome_of (command_of r.packet) decision) w (world_after w port p decision)
 load_goes_on w port verdict p r (Stopped status) law write line decides = absurd decides
 load_goes_on w port verdict p r (NotLoaded refusal) law write line decides = refused_load w port verdict p r refusal write line decides
 load_goes_on w port verdict p r (Loaded slot shown) law write line decides = loaded w port verdict p r slot shown law write line decides.0 decides.1
 
 publish_by : (w : WorldValue) (port verdict : ℕ) (p : PortValue) (r : RunValue) (decision : Decision) (line : Option Status) → ImagesAreRead → IsWriteIn w port verdict p r → judged_line (command_of r.packet) verdict ≡ line
-    → IsDecisionBy line (control_of (command_of r.packet).body) p.staging.bytes w.sizes w.count decision → GoesOn (Publish port) (outcome_of (command_of r.packet) decision) w (world_after w port p decision)
+    → IsDecisionBy line (control_of (command_of r.packet).body) p.staging.bytes w.sizes w.count decision → GoesOnLawfully (Publish port) (outcome_of (command_of r.packet) decision) w (world_after w port p decision)
 publish_by w port verdict p r decision None law write line decides = load_goes_on w port verdict p r decision law write line decides
 publish_by w port verdict p r decision (Some status) law write line decides = rw decides (stopped_write w port verdict p r status write line)
 
 pub publish_goes_on : (w : WorldValue) (port verdict : ℕ) (p : PortValue) (r : RunValue) (decision : Decision) → ImagesAreRead → IsWriteIn w port verdict p r
     → IsDecisionBy (judged_line (command_of r.packet) verdict) (control_of (command_of r.packet).body) p.staging.bytes w.sizes w.count decision
-    → GoesOn (Publish port) (outcome_of (command_of r.packet) decision) w (world_after w port p decision)
+    → GoesOnLawfully (Publish port) (outcome_of (command_of r.packet) decision) w (world_after w port p decision)
 publish_goes_on w port verdict p r decision law write decides = publish_by w port verdict p r decision (judged_line (command_of r.packet) verdict) law write refl decides
 
 -- ---- what is due
@@ -327,7 +327,7 @@ no_publish n h port (Some o) (Some r) is none =
     subst (λ (turn : Option Turn). IsPublishedBy n h port o turn Refused) (sym is.turn) (undue_at n h port o r.place r.turn is.placed.lies none)
 
 -- a publish is refused if none is due
-pub publish_refused : (w : WorldValue) (port : ℕ) (p : PortValue) → slice_get w.ports port ≡ Some p → port < length w.ports → None ≡ publish_due p.run → GoesOn (Publish port) Refused w w
+pub publish_refused : (w : WorldValue) (port : ℕ) (p : PortValue) → slice_get w.ports port ≡ Some p → port < length w.ports → None ≡ publish_due p.run → GoesOnLawfully (Publish port) Refused w w
 publish_refused w port p there below none n h world = record {
   lawful = then_lawful n h (Publish port) Refused world.lawful (outcome_here n h (Publish port) Refused w.ports below world.world.ports_are.count (no_publish n h port (opened h port) p.run (world.world.ports_are.each port p there).judging none)) tt;
   world = left_all n h (Publish port) Refused w tt world.world;

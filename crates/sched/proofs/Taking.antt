@@ -13,14 +13,14 @@ use Rattle.node_parts.specs.Steps.{IsStopped}
 use Rattle.sched.specs.declared.event.Event.TheVariants.{Take}
 use Rattle.sched.specs.declared.event.Outcome.{Outcome}
 use Rattle.sched.specs.declared.event.Outcome.TheVariants.{Refused, Answered, Taken}
-use Rattle.sched.specs.Begins.{IsBegun}
+use Rattle.sched.specs.BeginsHistory.{IsBegun}
 use Rattle.sched.specs.History.{History, Open, taken, opened}
 use Rattle.sched.specs.Lawful.{header_outcome, packet_outcome, take_outcome, stop_outcome}
 use Rattle.sched.specs.Looking.{Node, windows_in, slot_at, slot_of_packet, staging, published, entries}
-use Rattle.sched.specs.Worlds.{RunValue, PortValue, WorldValue, GoesOn, IsJudging, IsPortOf, IsRunOf, IsShownAs, IsWorldOf}
-use Rattle.sched.proofs.Growth.{IsPortBehind, LeavesAll, ports_changed, left_all}
-use Rattle.sched.proofs.Outcomes.{TellsWord, then_lawful}
-use Rattle.sched.proofs.Telling.{outcome_here}
+use Rattle.sched.specs.Worlds.{RunValue, PortValue, WorldValue, GoesOnLawfully, IsJudging, IsPortOf, IsRunOfOpen, IsShownAs, IsWorldOf}
+use Rattle.sched.proofs.Growth.{IsPortAfter, LeavesAll, ports_changed, left_all}
+use Rattle.sched.proofs.Outcomes.{AnswersWord, then_lawful}
+use Rattle.sched.proofs.Reporting.{outcome_here}
 
 -- ---- at a busy port
 
@@ -30,7 +30,7 @@ busy n h port packet None (Some r) is some = absurd is
 busy n h port packet (Some o) run is some = refl
 
 -- a packet at a port that judges a command is refused, and the world stays
-pub take_refused : (w : WorldValue) (port : ℕ) (packet : Cargo) (p : PortValue) → slice_get w.ports port ≡ Some p → port < length w.ports → is_none p.run ≡ false → GoesOn (Take port packet) Refused w w
+pub take_refused : (w : WorldValue) (port : ℕ) (packet : Cargo) (p : PortValue) → slice_get w.ports port ≡ Some p → port < length w.ports → is_none p.run ≡ false → GoesOnLawfully (Take port packet) Refused w w
 take_refused w port packet p there below some n h world =
     let here = world.world.ports_are.each port p there in
     record {
@@ -55,20 +55,20 @@ stop_leaves : (stop : Stop) (reply : List ℕ) → LeavesAll (stop_outcome stop 
 stop_leaves (NoCommand discard) reply = tt
 stop_leaves (Fault status) reply = tt
 
-stop_word : (stop : Stop) (reply : List ℕ) → TellsWord (stop_outcome stop reply)
+stop_word : (stop : Stop) (reply : List ℕ) → AnswersWord (stop_outcome stop reply)
 stop_word (NoCommand discard) reply = tt
 stop_word (Fault status) reply = tt
 
 -- what a packet comes to if its header stops it
 pub take_stopped : (w : WorldValue) (port : ℕ) (packet : Cargo) (p : PortValue) (stop : Stop) (reply : List ℕ) (outcome : Outcome) → slice_get w.ports port ≡ Some p → port < length w.ports → is_none p.run ≡ true
-    → IsStopped stop packet w.windows reply → outcome ≡ stop_outcome stop reply → GoesOn (Take port packet) outcome w w
+    → IsStopped stop packet w.windows reply → outcome ≡ stop_outcome stop reply → GoesOnLawfully (Take port packet) outcome w w
 take_stopped w port packet p stop reply outcome there below none stops is n h world =
     let old = world.world in
     let last = free n port (opened h port) p.run (old.ports_are.each port p there).judging none in
     let stops_here = subst (λ (windows : WindowsValue). IsStopped stop packet windows reply) old.windows_are stops in
-    let told = stopped_by n h packet stop reply stops_here ∙ sym (ap (take_outcome n h packet) last) in
+    let reported = stopped_by n h packet stop reply stops_here ∙ sym (ap (take_outcome n h packet) last) in
     rw is (record {
-      lawful = then_lawful n h (Take port packet) (stop_outcome stop reply) world.lawful (outcome_here n h (Take port packet) (stop_outcome stop reply) w.ports below old.ports_are.count told) (stop_word stop reply);
+      lawful = then_lawful n h (Take port packet) (stop_outcome stop reply) world.lawful (outcome_here n h (Take port packet) (stop_outcome stop reply) w.ports below old.ports_are.count reported) (stop_word stop reply);
       world = left_all n h (Take port packet) (stop_outcome stop reply) w (stop_leaves stop reply) old;
     })
 
@@ -81,8 +81,8 @@ taken_outcome n h packet place generation placed is =
     ap Taken is ∙ sym (ap (header_outcome n h packet) placed.allowed) ∙ sym (ap (packet_outcome n h packet) placed.command)
 
 -- the port judges the command from now on
-taken_port : (n : Node) (h : History) (port : ℕ) (packet : Cargo) (p : PortValue) (r : RunValue) → IsRunOf n port (taken packet r.generation h) r
-    → IsPortOf n port (staging n h port) (opened h port) (entries n h) p → IsPortBehind n h (Take port packet) (Taken r.generation) port (record p { run = Some r })
+taken_port : (n : Node) (h : History) (port : ℕ) (packet : Cargo) (p : PortValue) (r : RunValue) → IsRunOfOpen n port (taken packet r.generation h) r
+    → IsPortOf n port (staging n h port) (opened h port) (entries n h) p → IsPortAfter n h (Take port packet) (Taken r.generation) port (record p { run = Some r })
 taken_port n h port packet p r run before = record {
   staging_is = before.staging_is;
   judging = run;
@@ -92,15 +92,15 @@ taken_port n h port packet p r run before = record {
 
 -- what a command comes to if it is judged from now on
 pub take_taken : (w : WorldValue) (port : ℕ) (packet : Cargo) (place : Place) (p : PortValue) (r : RunValue) → slice_get w.ports port ≡ Some p → port < length w.ports → is_none p.run ≡ true
-    → IsPlacedBy w.windows packet place → IsBegun w port packet r → GoesOn (Take port packet) (Taken r.generation) w (record w { ports = slice_set w.ports port (record p { run = Some r }) })
+    → IsPlacedBy w.windows packet place → IsBegun w port packet r → GoesOnLawfully (Take port packet) (Taken r.generation) w (record w { ports = slice_set w.ports port (record p { run = Some r }) })
 take_taken w port packet place p r there below none placed begun n h world =
     let old = world.world in
     let here = old.ports_are.each port p there in
     let last = free n port (opened h port) p.run here.judging none in
     let placed_here = subst (λ (windows : WindowsValue). IsPlacedBy windows packet place) old.windows_are placed in
-    let told = taken_outcome n h packet place r.generation placed_here (begun.generation n h old) ∙ sym (ap (take_outcome n h packet) last) in
+    let reported = taken_outcome n h packet place r.generation placed_here (begun.generation n h old) ∙ sym (ap (take_outcome n h packet) last) in
     record {
-      lawful = then_lawful n h (Take port packet) (Taken r.generation) world.lawful (outcome_here n h (Take port packet) (Taken r.generation) w.ports below old.ports_are.count told) tt;
+      lawful = then_lawful n h (Take port packet) (Taken r.generation) world.lawful (outcome_here n h (Take port packet) (Taken r.generation) w.ports below old.ports_are.count reported) tt;
       world = record {
         windows_are = old.windows_are;
         sizes_are = old.sizes_are;

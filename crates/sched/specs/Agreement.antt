@@ -8,14 +8,14 @@ use Rattle.sched.specs.History.{History, Start, Then}
 use Rattle.sched.specs.Looking.{Node, published, published_at}
 
 -- the programs that were published, with one more at the end if an event published one
-abbrev pub with_published : Option (ℕ × Program) → List (ℕ × Program) → List (ℕ × Program)
-with_published None made = made
-with_published (Some next) made = made ++ next ∷ []
+abbrev pub with_event_published : Option (ℕ × Program) → List (ℕ × Program) → List (ℕ × Program)
+with_event_published None made = made
+with_event_published (Some next) made = made ++ next ∷ []
 
 -- All that was published, in order: each program with its slot. What was published before the first event comes first.
 abbrev pub all_published : Node → History → List (ℕ × Program)
 all_published n Start = n.firsts
-all_published n (Then h event outcome) = with_published (published_at n h event outcome) (all_published n h)
+all_published n (Then h event outcome) = with_event_published (published_at n h event outcome) (all_published n h)
 
 -- the slot and the program of a publish
 abbrev pub slot_and_program : Publish → ℕ × Program

@@ -91,10 +91,10 @@ CanFinish windows banks port verdict p (Some r) =
     IsPlacedBy windows r.packet r.place × CanEnd r.place banks (record p { run = None }) (judged_with port verdict r)
 
 -- the command that a port judged ended, with that verdict, and the port judges none any more
-abbrev pub HasFinished : (old new : List BankValue) → (port verdict : ℕ) → (p q : PortValue) → Option RunValue → Status
+abbrev pub HasPortFinished : (old new : List BankValue) → (port verdict : ℕ) → (p q : PortValue) → Option RunValue → Status
     → (reply : List ℕ) → Type 0
-HasFinished old new port verdict p q None status reply = ⊥
-HasFinished old new port verdict p q (Some r) status reply =
+HasPortFinished old new port verdict p q None status reply = ⊥
+HasPortFinished old new port verdict p q (Some r) status reply =
     EndsAt r.place old new (record p { run = None }) q (judged_with port verdict r) status reply
 
 -- ---- control writes
@@ -147,8 +147,8 @@ load_result_kept None s = s
 load_result_kept (Some loaded) s = staged s.bytes loaded
 
 -- A port whose control write ended: it judges none, and the staging keeps the load result if a load was decided.
-abbrev pub after_write : Option (List ℕ) → PortValue → PortValue
-after_write loaded p = record p { run = None; staging = load_result_kept loaded p.staging }
+abbrev pub after_control_write : Option (List ℕ) → PortValue → PortValue
+after_control_write loaded p = record p { run = None; staging = load_result_kept loaded p.staging }
 
 -- the programs of the slots after a control write
 abbrev pub programs_shown : List (AcceptedValue × ℕ) → Decision → List (AcceptedValue × ℕ)

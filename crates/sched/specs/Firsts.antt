@@ -13,8 +13,8 @@ abbrev pub slot_with_program : ℕ × AcceptedValue → ℕ × Program
 slot_with_program first = (first.0, first.1.program)
 
 -- it is for one of the four slots, and was accepted for maps of those sizes
-abbrev pub IsFirst : Maps → ℕ × AcceptedValue → Type 0
-IsFirst sizes first = (first.0 ≤ 3) × (first.1.sizes ≡ sizes)
+abbrev pub IsFirstOfWorld : Maps → ℕ × AcceptedValue → Type 0
+IsFirstOfWorld sizes first = (first.0 ≤ 3) × (first.1.sizes ≡ sizes)
 
 -- the node with one program more that is published before the first event, after the others
 abbrev pub with_first : Node → ℕ × Program → Node

@@ -7,7 +7,7 @@ use Rattle.rmap.specs.declared.places.Place.TheVariants as places
 use Rattle.rmap.specs.declared.status.Status.{Status}
 use Rattle.rmap.specs.Command.{CommandValue, command_of}
 use Rattle.rmap.specs.Reply.{reply_of}
-use Rattle.machine.specs.Memory.{IsHeader}
+use Rattle.machine.specs.Memory.{IsProgramHeader}
 use Rattle.machine.specs.Runs.{IsSafe}
 use Rattle.bver.specs.Justified.{IsJustified}
 use Rattle.brun.specs.declared.turns.Turn.TheVariants as turns
@@ -23,8 +23,8 @@ use Rattle.sched.specs.declared.event.Event.TheVariants.{Take, Count, Ticket, Pe
 use Rattle.sched.specs.declared.event.Outcome.{Outcome}
 use Rattle.sched.specs.declared.event.Outcome.TheVariants.{Refused, Discarded, Answered, Taken, Told, Done}
 use Rattle.sched.specs.History.{History, Start, Then, Open, port_of, opened}
-use Rattle.sched.specs.Lawful.{IsLawful, IsLawfulButTold, IsLoaded, bank_answer, staging_answer, effect_at_place}
-use Rattle.sched.specs.Looking.{Node, place_in, slot_of_packet, header_in, staging, publishes, published}
+use Rattle.sched.specs.Lawful.{IsLawful, IsLawfulExceptAnswers, IsLoaded, bank_answer, staging_answer, effect_at_place}
+use Rattle.sched.specs.Looking.{Node, place_in, slot_of_packet, seen_header_in, staging, publishes, published}
 use Rattle.sched.specs.Looking.{program_of, turn_of, memory}
 use Rattle.sched.specs.Turns.{AreWords, HasEnded}
 
@@ -59,7 +59,7 @@ is_turning Refused = false
 is_turning (Discarded discard) = false
 is_turning (Answered status reply) = false
 is_turning (Taken generation) = true
-is_turning (Told told) = false
+is_turning (Told reported) = false
 is_turning (Done status reply loaded) = true
 
 -- the first history begins the second, and after it the port took no command and did none
@@ -75,24 +75,24 @@ OpenedAreTaken =
     → LeadsTo port (Then o.before (Take port o.packet) (Taken o.generation)) h
 
 -- the first history begins the second
-pub data Begins (first : History) : History → Type 0 where
-  whole : Begins first first
-  longer : {h : History} {event : Event} {outcome : Outcome} → Begins first h → Begins first (Then h event outcome)
+pub data BeginsHistory (first : History) : History → Type 0 where
+  whole : BeginsHistory first first
+  longer : {h : History} {event : Event} {outcome : Outcome} → BeginsHistory first h → BeginsHistory first (Then h event outcome)
 
 -- after a command of a port that was done, what is open there was taken after that
-abbrev pub OpenedBehindDone : Type 0
-OpenedBehindDone =
+abbrev pub OpenedAfterDone : Type 0
+OpenedAfterDone =
     (h later : History) (event : Event) (status : Status) (reply : List ℕ) (loaded : Option (List ℕ)) (o : Open)
-    → Begins (Then h event (Done status reply loaded)) later → opened later (port_of event) ≡ Some o
-    → Begins (Then h event (Done status reply loaded)) o.before
+    → BeginsHistory (Then h event (Done status reply loaded)) later → opened later (port_of event) ≡ Some o
+    → BeginsHistory (Then h event (Done status reply loaded)) o.before
 
 -- each command of the port that was done in the history was done in that beginning of it
 abbrev pub AreDoneWithin : (port : ℕ) → (h first : History) → Type 0
 AreDoneWithin port h first =
     (earlier : History) (event : Event) (status : Status) (reply : List ℕ) (loaded : Option (List ℕ)) → port_of event
     ≡ port
-    → Begins (Then earlier event (Done status reply loaded)) h
-    → Begins (Then earlier event (Done status reply loaded)) first
+    → BeginsHistory (Then earlier event (Done status reply loaded)) h
+    → BeginsHistory (Then earlier event (Done status reply loaded)) first
 
 -- ---- what an effect leaves
 
@@ -122,7 +122,7 @@ staging_left n h port c verdict (Some places.Control) q = staging n h q
 -- program changed.
 pub record IsEffectOf (n : Node) (h : History) (port : ℕ) (c : CommandValue) (verdict : ℕ) (place : Option Place)
     (outcome : Outcome) (after : History) : Type 0 where
-  pub told : outcome ≡ effect_at_place n h port c verdict place
+  pub reported : outcome ≡ effect_at_place n h port c verdict place
   pub memories : (k : ℕ) → memory n after k ≡ memory_left n h port c verdict place k
   pub stagings : (q : ℕ) → staging n after q ≡ staging_left n h port c verdict place q
   pub programs : (slot : ℕ) → published n after slot ≡ published n h slot
@@ -144,7 +144,7 @@ program_left n h (loads.Refused refusal) slot = published n h slot
 -- a control write that something stops ended with that status, and changed nothing
 pub record IsStoppedWrite (n : Node) (h : History) (c : CommandValue) (status : Status) (outcome : Outcome)
     (after : History) : Type 0 where
-  pub told : outcome ≡ Done status (reply_of c status []) None
+  pub reported : outcome ≡ Done status (reply_of c status []) None
   pub memories : (k : ℕ) → memory n after k ≡ memory n h k
   pub stagings : (q : ℕ) → staging n after q ≡ staging n h q
   pub programs : (slot : ℕ) → published n after slot ≡ published n h slot
@@ -154,7 +154,7 @@ pub record IsLoadOf (n : Node) (h : History) (port : ℕ) (c : CommandValue) (ou
     0 where
   pub load : Load
   pub decides : IsLoad (control_of c.body) (staging n h port).bytes n.sizes (publishes n h + 1) load
-  pub told : IsLoaded n h c load outcome
+  pub reported : IsLoaded n h c load outcome
   pub memories : (k : ℕ) → memory n after k ≡ memory n h k
   pub stagings : (q : ℕ) → staging n after q
       ≡ (if port == q then staged (staging n h q).bytes (load_result_left n h load) else staging n h q)
@@ -185,7 +185,7 @@ EndsBy n h port o verdict (Publish at_port) outcome =
 -- judged it, and the Take reported that program's generation. That program is justified, so it is safe. What it saw is
 -- a header, and the answers that it got are words. Its run on them ended with the verdict, within its budget. Outcome,
 -- memories, stagings and programs are what the definition gives for that verdict.
-pub record IsJudgedOnce (n : Node) (h : History) (event : Event) (outcome : Outcome) : Type 0 where
+pub record IsTakenOnceDoneOnce (n : Node) (h : History) (event : Event) (outcome : Outcome) : Type 0 where
   pub there : port_of event < n.ports
   pub taken : Open
   pub is_open : opened h (port_of event) ≡ Some taken
@@ -194,11 +194,11 @@ pub record IsJudgedOnce (n : Node) (h : History) (event : Event) (outcome : Outc
   pub judged_by : published n taken.before (slot_of_packet n taken.packet) ≡ (program_of n taken, taken.generation)
   pub justified : IsJustified (program_of n taken) n.sizes
   pub safe : IsSafe (program_of n taken) n.sizes
-  pub header : IsHeader (header_in taken.packet)
+  pub header : IsProgramHeader (seen_header_in taken.packet)
   pub words : AreWords taken.answers
   pub verdict : ℕ
   pub stands : turn_of n (port_of event) taken ≡ Some (turns.Verdict verdict)
-  pub run : HasEnded (program_of n taken) (header_in taken.packet) (port_of event) taken.answers verdict
+  pub run : HasEnded (program_of n taken) (seen_header_in taken.packet) (port_of event) taken.answers verdict
   pub ended : EndsBy n h (port_of event) taken verdict event outcome
 
 -- over every schedule of a node, a command that is done is judged once
@@ -206,14 +206,14 @@ abbrev pub EveryScheduleJudgesOnce : Type 0
 EveryScheduleJudgesOnce =
     (n : Node) (h : History) (event : Event) (status : Status) (reply : List ℕ) (loaded : Option (List ℕ))
     → IsNode n → HasBytes h → IsLawful n (Then h event (Done status reply loaded))
-    → IsJudgedOnce n h event (Done status reply loaded)
+    → IsTakenOnceDoneOnce n h event (Done status reply loaded)
 
 -- the same if cells may have answered any words: it asks for nothing that they answered
 abbrev pub EveryHistoryJudgesOnce : Type 0
 EveryHistoryJudgesOnce =
     (n : Node) (h : History) (event : Event) (status : Status) (reply : List ℕ) (loaded : Option (List ℕ))
-    → IsNode n → HasBytes h → IsLawfulButTold n (Then h event (Done status reply loaded))
-    → IsJudgedOnce n h event (Done status reply loaded)
+    → IsNode n → HasBytes h → IsLawfulExceptAnswers n (Then h event (Done status reply loaded))
+    → IsTakenOnceDoneOnce n h event (Done status reply loaded)
 
 -- the command that an event ends, if it ends one, is judged once
 abbrev pub IsJudgedOnceIfDone : Node → History → Event → Outcome → Type 0
@@ -221,8 +221,8 @@ IsJudgedOnceIfDone n h event Refused = Unit {0}
 IsJudgedOnceIfDone n h event (Discarded discard) = Unit {0}
 IsJudgedOnceIfDone n h event (Answered status reply) = Unit {0}
 IsJudgedOnceIfDone n h event (Taken generation) = Unit {0}
-IsJudgedOnceIfDone n h event (Told told) = Unit {0}
-IsJudgedOnceIfDone n h event (Done status reply loaded) = IsJudgedOnce n h event (Done status reply loaded)
+IsJudgedOnceIfDone n h event (Told reported) = Unit {0}
+IsJudgedOnceIfDone n h event (Done status reply loaded) = IsTakenOnceDoneOnce n h event (Done status reply loaded)
 
 -- each command that is done in a history is judged once
 abbrev pub AreJudgedOnce : Node → History → Type 0

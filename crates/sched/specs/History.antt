@@ -49,12 +49,12 @@ taken_by h generation (Publish port) = None
 
 -- an open command after a helper of its program answered that
 abbrev pub with_answer : ℕ → Open → Open
-with_answer told o = record o { answers = o.answers ++ told ∷ [] }
+with_answer reported o = record o { answers = o.answers ++ reported ∷ [] }
 
 -- the same, if one is open
-abbrev pub after_told : ℕ → Option Open → Option Open
-after_told told None = None
-after_told told (Some o) = Some (with_answer told o)
+abbrev pub open_after_answer : ℕ → Option Open → Option Open
+open_after_answer reported None = None
+open_after_answer reported (Some o) = Some (with_answer reported o)
 
 -- The open command of a port after an event of its own, by what that came to. `Taken` opens one, `Told` answers it, and
 -- after `Done` none is open.
@@ -63,7 +63,7 @@ opened_by h last event Refused = last
 opened_by h last event (Discarded discard) = last
 opened_by h last event (Answered status reply) = last
 opened_by h last event (Taken generation) = taken_by h generation event
-opened_by h last event (Told told) = after_told told last
+opened_by h last event (Told reported) = open_after_answer reported last
 opened_by h last event (Done status reply loaded) = None
 
 -- the open command of a port: the last that was taken there, if none was done since

@@ -28,7 +28,7 @@ use Rattle.sched.specs.declared.event.Outcome.{Outcome}
 use Rattle.sched.specs.declared.event.Outcome.TheVariants.{Refused, Discarded, Answered, Taken, Told, Done}
 use Rattle.sched.specs.History.{History, Start, Then, Open, port_of, opened}
 use Rattle.sched.specs.Looking.{Node, windows_in, place_in, slot_of_packet, staging, publishes, published, turn_of}
-use Rattle.sched.specs.Looking.{turn_at, cell_asked, argument_asked, tickets, peaks, cell_word, has_room, entries}
+use Rattle.sched.specs.Looking.{turn_at, cell_asked, argument_asked, tickets, peaks, cell_word, has_entry_room, entries}
 use Rattle.sched.specs.Looking.{memory}
 
 -- ---- Take
@@ -58,23 +58,23 @@ take_outcome n h p (Some o) = Refused
 
 -- What a helper answers of a cell, asked with that argument: `count` what its word says, `ticket` how many tickets of
 -- it were drawn before, modulo 2^64, `peak` the greater of its peak and the argument.
-abbrev pub told_of_cell : Node → History → Helper → (map key argument : ℕ) → ℕ
-told_of_cell n h helpers.Count map key argument = cell_word n h map key
-told_of_cell n h helpers.Ticket map key argument = tickets n h map key % 2 ^ 64
-told_of_cell n h helpers.Peak map key argument = max (peaks n h map key) argument
+abbrev pub answer_of_cell : Node → History → Helper → (map key argument : ℕ) → ℕ
+answer_of_cell n h helpers.Count map key argument = cell_word n h map key
+answer_of_cell n h helpers.Ticket map key argument = tickets n h map key % 2 ^ 64
+answer_of_cell n h helpers.Peak map key argument = max (peaks n h map key) argument
 
 -- What the event of a helper comes to. If a program asks it for that cell, some word is the answer, else the event is
 -- refused.
-abbrev pub IsSomeTold : Option (ℕ × ℕ) → Outcome → Type 0
-IsSomeTold None outcome = outcome ≡ Refused
-IsSomeTold (Some cell) outcome = (answer : ℕ) × (answer < 2 ^ 64) × (outcome ≡ Told answer)
+abbrev pub IsSomeAnswer : Option (ℕ × ℕ) → Outcome → Type 0
+IsSomeAnswer None outcome = outcome ≡ Refused
+IsSomeAnswer (Some cell) outcome = (answer : ℕ) × (answer < 2 ^ 64) × (outcome ≡ Told answer)
 
 -- ---- Effect
 
 -- the answer to a judged command of a port at bank k, on the memory that looking back gives
 abbrev pub bank_answer : Node → History → (k port : ℕ) → CommandValue → (verdict : ℕ) → Answer
 bank_answer n h k port c verdict =
-    answer (memory n h k) (has_room (slice_get n.banks k) port (entries n h k)) c verdict
+    answer (memory n h k) (has_entry_room (slice_get n.banks k) port (entries n h k)) c verdict
 
 -- the answer to it on the port's staging, which always has room
 abbrev pub staging_answer : Node → History → (port : ℕ) → CommandValue → (verdict : ℕ) → Answer
@@ -121,7 +121,7 @@ IsLoaded n h c (loads.Refused refusal) outcome =
 pub record IsDecided (n : Node) (h : History) (port : ℕ) (c : CommandValue) (outcome : Outcome) : Type 0 where
   pub load : Load
   pub decides : IsLoad (control_of c.body) (staging n h port).bytes n.sizes (publishes n h + 1) load
-  pub told : IsLoaded n h c load outcome
+  pub reported : IsLoaded n h c load outcome
 
 -- how a control write ends, by what stops it: if nothing does, a load decides
 abbrev pub IsControlled : Node → History → (port : ℕ) → CommandValue → Option Status → Outcome → Type 0
@@ -152,53 +152,53 @@ IsPublishOutcome n h port (Some o) outcome = IsPublishedBy n h port o (turn_of n
 -- ---- all events, apart from what cells answered
 
 -- what an event comes to at a port of the node, apart from what a cell answers
-abbrev pub IsOutcomeAtButTold : Node → History → Event → Outcome → Type 0
-IsOutcomeAtButTold n h (Take port p) outcome = outcome ≡ take_outcome n h p (opened h port)
-IsOutcomeAtButTold n h (Count port) outcome = IsSomeTold (cell_asked helpers.Count (turn_at n h port)) outcome
-IsOutcomeAtButTold n h (Ticket port) outcome = IsSomeTold (cell_asked helpers.Ticket (turn_at n h port)) outcome
-IsOutcomeAtButTold n h (Peak port) outcome = IsSomeTold (cell_asked helpers.Peak (turn_at n h port)) outcome
-IsOutcomeAtButTold n h (Effect port) outcome = outcome ≡ effect_outcome n h port (opened h port)
-IsOutcomeAtButTold n h (Publish port) outcome = IsPublishOutcome n h port (opened h port) outcome
+abbrev pub IsOutcomeAtExceptAnswer : Node → History → Event → Outcome → Type 0
+IsOutcomeAtExceptAnswer n h (Take port p) outcome = outcome ≡ take_outcome n h p (opened h port)
+IsOutcomeAtExceptAnswer n h (Count port) outcome = IsSomeAnswer (cell_asked helpers.Count (turn_at n h port)) outcome
+IsOutcomeAtExceptAnswer n h (Ticket port) outcome = IsSomeAnswer (cell_asked helpers.Ticket (turn_at n h port)) outcome
+IsOutcomeAtExceptAnswer n h (Peak port) outcome = IsSomeAnswer (cell_asked helpers.Peak (turn_at n h port)) outcome
+IsOutcomeAtExceptAnswer n h (Effect port) outcome = outcome ≡ effect_outcome n h port (opened h port)
+IsOutcomeAtExceptAnswer n h (Publish port) outcome = IsPublishOutcome n h port (opened h port) outcome
 
 -- What an event comes to, apart from what a cell answers. At a port that the node does not have, it is refused.
-pub record IsOutcomeButTold (n : Node) (h : History) (event : Event) (outcome : Outcome) : Type 0 where
-  pub here : port_of event < n.ports → IsOutcomeAtButTold n h event outcome
+pub record IsOutcomeExceptAnswer (n : Node) (h : History) (event : Event) (outcome : Outcome) : Type 0 where
+  pub here : port_of event < n.ports → IsOutcomeAtExceptAnswer n h event outcome
   pub nowhere : n.ports ≤ port_of event → outcome ≡ Refused
 
 -- each outcome is the one that looking back from its place gives, apart from what cells answered
-abbrev pub IsLawfulButTold : Node → History → Type 0
-IsLawfulButTold n Start = Unit {0}
-IsLawfulButTold n (Then h event outcome) = IsLawfulButTold n h × IsOutcomeButTold n h event outcome
+abbrev pub IsLawfulExceptAnswers : Node → History → Type 0
+IsLawfulExceptAnswers n Start = Unit {0}
+IsLawfulExceptAnswers n (Then h event outcome) = IsLawfulExceptAnswers n h × IsOutcomeExceptAnswer n h event outcome
 
 -- ---- what cells answered
 
 -- the answer of a helper's event, if a program asks it for that cell with that argument, is what looking back gives
-abbrev pub IsToldOf : Node → History → Helper → (argument : ℕ) → Option (ℕ × ℕ) → Outcome → Type 0
-IsToldOf n h helper argument None outcome = Unit {0}
-IsToldOf n h helper argument (Some cell) outcome = outcome ≡ Told (told_of_cell n h helper cell.0 cell.1 argument)
+abbrev pub IsAnswerOf : Node → History → Helper → (argument : ℕ) → Option (ℕ × ℕ) → Outcome → Type 0
+IsAnswerOf n h helper argument None outcome = Unit {0}
+IsAnswerOf n h helper argument (Some cell) outcome = outcome ≡ Told (answer_of_cell n h helper cell.0 cell.1 argument)
 
 -- the same by where the program of the port is
-abbrev pub IsToldAt : Node → History → Helper → (port : ℕ) → Outcome → Type 0
-IsToldAt n h helper port outcome =
-    IsToldOf n h helper (argument_asked (turn_at n h port)) (cell_asked helper (turn_at n h port)) outcome
+abbrev pub IsAnsweredAt : Node → History → Helper → (port : ℕ) → Outcome → Type 0
+IsAnsweredAt n h helper port outcome =
+    IsAnswerOf n h helper (argument_asked (turn_at n h port)) (cell_asked helper (turn_at n h port)) outcome
 
 -- what an event answered, if it answered something
-abbrev pub IsToldBy : Node → History → Event → Outcome → Type 0
-IsToldBy n h (Take port p) outcome = Unit {0}
-IsToldBy n h (Count port) outcome = IsToldAt n h helpers.Count port outcome
-IsToldBy n h (Ticket port) outcome = IsToldAt n h helpers.Ticket port outcome
-IsToldBy n h (Peak port) outcome = IsToldAt n h helpers.Peak port outcome
-IsToldBy n h (Effect port) outcome = Unit {0}
-IsToldBy n h (Publish port) outcome = Unit {0}
+abbrev pub IsAnsweredBy : Node → History → Event → Outcome → Type 0
+IsAnsweredBy n h (Take port p) outcome = Unit {0}
+IsAnsweredBy n h (Count port) outcome = IsAnsweredAt n h helpers.Count port outcome
+IsAnsweredBy n h (Ticket port) outcome = IsAnsweredAt n h helpers.Ticket port outcome
+IsAnsweredBy n h (Peak port) outcome = IsAnsweredAt n h helpers.Peak port outcome
+IsAnsweredBy n h (Effect port) outcome = Unit {0}
+IsAnsweredBy n h (Publish port) outcome = Unit {0}
 
 -- at the ports of the node each cell answered what looking back from there gives
-abbrev pub TellsLookedBack : Node → History → Type 0
-TellsLookedBack n Start = Unit {0}
-TellsLookedBack n (Then h event outcome) = TellsLookedBack n h × (port_of event < n.ports → IsToldBy n h event outcome)
+abbrev pub AnswersLookedBack : Node → History → Type 0
+AnswersLookedBack n Start = Unit {0}
+AnswersLookedBack n (Then h event outcome) = AnswersLookedBack n h × (port_of event < n.ports → IsAnsweredBy n h event outcome)
 
 -- ---- all of it
 
 -- each outcome is the one that looking back from its place gives, and so is what cells answered
 pub record IsLawful (n : Node) (h : History) : Type 0 where
-  pub but_told : IsLawfulButTold n h
-  pub told : TellsLookedBack n h
+  pub except_answers : IsLawfulExceptAnswers n h
+  pub reported : AnswersLookedBack n h

@@ -8,6 +8,6 @@ pub mod Worlds
 pub mod Ends
 pub mod Headline
 pub mod Agreement
-pub mod Begins
+pub mod BeginsHistory
 pub mod Firsts
 pub mod Standing

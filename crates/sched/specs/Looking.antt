@@ -68,8 +68,8 @@ abbrev pub slot_of_packet : Node → Cargo → ℕ
 slot_of_packet n p = slot_at (command_of p) (place_in n p)
 
 -- what a program sees of a packet's command
-abbrev pub header_in : Cargo → Header
-header_in p = header (command_of p).front (command_of p).tail
+abbrev pub seen_header_in : Cargo → Header
+seen_header_in p = header (command_of p).front (command_of p).tail
 
 -- ---- stagings and load results
 
@@ -84,10 +84,10 @@ staged_at (Some places.LoadResult) status c s = s
 staged_at (Some places.Control) status c s = s
 
 -- a staging after an open command that was done, with the load result if a load was decided
-abbrev pub staged_behind : Node → Option Open → Status → (loaded : Option (List ℕ)) → Staged → Staged
-staged_behind n None status loaded s = s
-staged_behind n (Some o) status None s = staged_at (place_in n o.packet) status (command_of o.packet) s
-staged_behind n (Some o) status (Some loaded) s = staged s.bytes loaded
+abbrev pub staged_after : Node → Option Open → Status → (loaded : Option (List ℕ)) → Staged → Staged
+staged_after n None status loaded s = s
+staged_after n (Some o) status None s = staged_at (place_in n o.packet) status (command_of o.packet) s
+staged_after n (Some o) status (Some loaded) s = staged s.bytes loaded
 
 -- a staging after an event of its port, by what that came to
 abbrev pub staged_by : Node → Option Open → Outcome → Staged → Staged
@@ -95,8 +95,8 @@ staged_by n o Refused s = s
 staged_by n o (Discarded discard) s = s
 staged_by n o (Answered status reply) s = s
 staged_by n o (Taken generation) s = s
-staged_by n o (Told told) s = s
-staged_by n o (Done status reply loaded) s = staged_behind n o status loaded s
+staged_by n o (Told reported) s = s
+staged_by n o (Done status reply loaded) s = staged_after n o status loaded s
 
 -- the staging of a port, with the result of its last load
 abbrev pub staging : Node → History → (port : ℕ) → Staged
@@ -128,7 +128,7 @@ published_by staged o Refused = None
 published_by staged o (Discarded discard) = None
 published_by staged o (Answered status reply) = None
 published_by staged o (Taken generation) = None
-published_by staged o (Told told) = None
+published_by staged o (Told reported) = None
 published_by staged o (Done status reply loaded) =
     if is_some loaded && is_success status then loaded_by staged o else None
 
@@ -138,31 +138,31 @@ published_at n h event outcome =
     published_by (staging n h (port_of event)).bytes (opened h (port_of event)) outcome
 
 -- one more, if something was published
-abbrev pub counted : Option (ℕ × Program) → ℕ → ℕ
-counted None count = count
-counted (Some made) count = count + 1
+abbrev pub counted_publish : Option (ℕ × Program) → ℕ → ℕ
+counted_publish None count = count
+counted_publish (Some made) count = count + 1
 
 -- how many programs were published, with those before the first event
 abbrev pub publishes : Node → History → ℕ
 publishes n Start = length n.firsts
-publishes n (Then h event outcome) = counted (published_at n h event outcome) (publishes n h)
+publishes n (Then h event outcome) = counted_publish (published_at n h event outcome) (publishes n h)
 
 -- the program of a slot with its generation, after what was published as number `count + 1`
-abbrev pub published_behind : Option (ℕ × Program) → (count : ℕ) → (slot : ℕ) → Program × ℕ → Program × ℕ
-published_behind None count slot before = before
-published_behind (Some made) count slot before = if made.0 == slot then (made.1, count + 1) else before
+abbrev pub published_after_count : Option (ℕ × Program) → (count : ℕ) → (slot : ℕ) → Program × ℕ → Program × ℕ
+published_after_count None count slot before = before
+published_after_count (Some made) count slot before = if made.0 == slot then (made.1, count + 1) else before
 
 -- the same after several in order, the first as number `count + 1`
 abbrev pub published_after : List (ℕ × Program) → (count : ℕ) → (slot : ℕ) → Program × ℕ → Program × ℕ
 published_after [] count slot before = before
 published_after (made ∷ more) count slot before =
-    published_after more (count + 1) slot (published_behind (Some made) count slot before)
+    published_after more (count + 1) slot (published_after_count (Some made) count slot before)
 
 -- the program of a slot with its generation: the last that was published for it, else the factory program and 0
 abbrev pub published : Node → History → (slot : ℕ) → Program × ℕ
 published n Start slot = published_after n.firsts 0 slot (n.factory, 0)
 published n (Then h event outcome) slot =
-    published_behind (published_at n h event outcome) (publishes n h) slot (published n h slot)
+    published_after_count (published_at n h event outcome) (publishes n h) slot (published n h slot)
 
 -- the program that judges an open command: the one of its slot when it was taken
 abbrev pub program_of : Node → Open → Program
@@ -170,7 +170,7 @@ program_of n o = (published n o.before (slot_of_packet n o.packet)).0
 
 -- where the program of an open command of the port is
 abbrev pub turn_of : Node → (port : ℕ) → Open → Option Turn
-turn_of n port o = turn_after (program_of n o) (header_in o.packet) port o.answers
+turn_of n port o = turn_after (program_of n o) (seen_header_in o.packet) port o.answers
 
 -- where the port's program is, if a command is open there
 abbrev pub turn_by : Node → (port : ℕ) → Option Open → Option Turn
@@ -200,13 +200,13 @@ is_cell_of_node None map key = false
 is_cell_of_node (Some cell) map key = cell.0 == map && cell.1 == key
 
 -- whether an outcome is an answer
-abbrev pub is_told : Outcome → Bool
-is_told Refused = false
-is_told (Discarded discard) = false
-is_told (Answered status reply) = false
-is_told (Taken generation) = false
-is_told (Told told) = true
-is_told (Done status reply loaded) = false
+abbrev pub is_answer : Outcome → Bool
+is_answer Refused = false
+is_answer (Discarded discard) = false
+is_answer (Answered status reply) = false
+is_answer (Taken generation) = false
+is_answer (Told reported) = true
+is_answer (Done status reply loaded) = false
 
 -- whether an event draws a ticket of the cell, if the program of its port is there: `ticket` does
 abbrev pub draws : Option Turn → Event → (map key : ℕ) → Bool
@@ -221,7 +221,7 @@ draws turn (Publish port) map key = false
 abbrev pub tickets : Node → History → (map key : ℕ) → ℕ
 tickets n Start map key = 0
 tickets n (Then h event outcome) map key =
-    if is_told outcome && draws (turn_at n h (port_of event)) event map key
+    if is_answer outcome && draws (turn_at n h (port_of event)) event map key
     then tickets n h map key + 1
     else tickets n h map key
 
@@ -244,7 +244,7 @@ argument_asked (Some (turns.Verdict verdict)) = 0
 abbrev pub peaks : Node → History → (map key : ℕ) → ℕ
 peaks n Start map key = 0
 peaks n (Then h event outcome) map key =
-    if is_told outcome && raises (turn_at n h (port_of event)) event map key
+    if is_answer outcome && raises (turn_at n h (port_of event)) event map key
     then max (peaks n h map key) (argument_asked (turn_at n h (port_of event)))
     else peaks n h map key
 
@@ -276,14 +276,14 @@ room_of None = 0
 room_of (Some bank) = bank.room
 
 -- whether there is room for one more entry of the port: in the journal, and in the numbers of the port
-abbrev pub has_room : Option BankConfig → (port : ℕ) → List EntryValue → Bool
-has_room bank port entries =
+abbrev pub has_entry_room : Option BankConfig → (port : ℕ) → List EntryValue → Bool
+has_entry_room bank port entries =
     nat_lt (length entries) (room_of bank) && nat_lt (length (numbers_of port entries)) (2 ^ 64 - 1)
 
 -- the entries with one more of the port, while there is room
 abbrev pub entered : Node → Option BankConfig → (port : ℕ) → Open → Status → List EntryValue → List EntryValue
 entered n bank port o status entries =
-    if has_room bank port entries
+    if has_entry_room bank port entries
     then entries ++ entry_left n port (length (numbers_of port entries)) o status ∷ []
     else entries
 
@@ -297,24 +297,24 @@ entries_at n k port (Some places.LoadResult) o status entries = entries
 entries_at n k port (Some places.Control) o status entries = entries
 
 -- the same after an open command of the port
-abbrev pub entries_behind : Node → (k port : ℕ) → Option Open → Status → List EntryValue → List EntryValue
-entries_behind n k port None status entries = entries
-entries_behind n k port (Some o) status entries = entries_at n k port (place_in n o.packet) o status entries
+abbrev pub entries_after : Node → (k port : ℕ) → Option Open → Status → List EntryValue → List EntryValue
+entries_after n k port None status entries = entries
+entries_after n k port (Some o) status entries = entries_at n k port (place_in n o.packet) o status entries
 
 -- the entries of bank k after an event of the port, by what that came to
-abbrev pub entries_by : Node → (k port : ℕ) → Option Open → Outcome → List EntryValue → List EntryValue
-entries_by n k port o Refused entries = entries
-entries_by n k port o (Discarded discard) entries = entries
-entries_by n k port o (Answered status reply) entries = entries
-entries_by n k port o (Taken generation) entries = entries
-entries_by n k port o (Told told) entries = entries
-entries_by n k port o (Done status reply loaded) entries = entries_behind n k port o status entries
+abbrev pub entries_by_event : Node → (k port : ℕ) → Option Open → Outcome → List EntryValue → List EntryValue
+entries_by_event n k port o Refused entries = entries
+entries_by_event n k port o (Discarded discard) entries = entries
+entries_by_event n k port o (Answered status reply) entries = entries
+entries_by_event n k port o (Taken generation) entries = entries
+entries_by_event n k port o (Told reported) entries = entries
+entries_by_event n k port o (Done status reply loaded) entries = entries_after n k port o status entries
 
 -- the entries of bank k: one for each of its commands that was done, while there was room
 abbrev pub entries : Node → History → (k : ℕ) → List EntryValue
 entries n Start k = []
 entries n (Then h event outcome) k =
-    entries_by n k (port_of event) (opened h (port_of event)) outcome (entries n h k)
+    entries_by_event n k (port_of event) (opened h (port_of event)) outcome (entries n h k)
 
 -- the memory of a bank to which no command was applied: zeros
 abbrev pub first_memory : Option BankConfig → Memory

@@ -2,7 +2,7 @@
 use Rattle.std.specs.Prelude.{◌≡◌, ℕ, Option, Some, None}
 use Rattle.machine.specs.Memory.{header}
 use Rattle.sched.specs.History.{Open}
-use Rattle.sched.specs.Looking.{Node, header_in, place_in, program_of, slot_of_packet, turn_of}
+use Rattle.sched.specs.Looking.{Node, seen_header_in, place_in, program_of, slot_of_packet, turn_of}
 use Rattle.sched.specs.declared.standing.Standing.{Standing}
 
 -- What is lent is the open command of the port. It has the program of its Take with generation and slot, accepted for
@@ -13,7 +13,7 @@ pub record IsLentOf (n : Node) (port : ℕ) (o : Open) (j : Standing) : Type 0 w
   pub sizes : j.program.now.sizes ≡ n.sizes
   pub generation : j.generation ≡ o.generation
   pub slot : j.slot ≡ slot_of_packet n o.packet
-  pub header_is : header j.front.now j.tail.now ≡ header_in o.packet
+  pub header_is : header j.front.now j.tail.now ≡ seen_header_in o.packet
   pub place : place_in n o.packet ≡ Some j.place
   pub turn : turn_of n port o ≡ Some j.turn
 

@@ -5,7 +5,7 @@ use Rattle.brun.specs.declared.turns.Turn.{Turn}
 use Rattle.brun.specs.declared.turns.Turn.TheVariants as turns
 use Rattle.brun.specs.Runs.{RunsWithin}
 use Rattle.machine.specs.declared.calls.Call.{Call}
-use Rattle.machine.specs.Memory.{Header, IsHeader}
+use Rattle.machine.specs.Memory.{Header, IsProgramHeader}
 use Rattle.machine.specs.Runs.{Path, IsSafe}
 use Rattle.machine.specs.Sizes.{Maps}
 use Rattle.machine.specs.State.{State, entry_state}
@@ -35,8 +35,8 @@ turn_after program header port answers =
     turn_within program header program.budget (entry_state port) answers
 
 -- the answers of some calls, in order
-abbrev pub answers_of : List Call → List ℕ
-answers_of calls = map (λ (c : Call). c.answer) calls
+abbrev pub answers_of_calls : List Call → List ℕ
+answers_of_calls calls = map (λ (c : Call). c.answer) calls
 
 -- each answer is a word
 abbrev pub AreWords : List ℕ → Type 0
@@ -46,7 +46,7 @@ AreWords answers = All (λ answer. answer < 2 ^ 64) answers
 pub record HasAsked (program : Program) (header : Header) (port : ℕ) (answers : List ℕ) (question : Question) : Type 0
   where
     pub calls : List Call
-    pub answered : answers_of calls ≡ answers
+    pub answered : answers_of_calls calls ≡ answers
     pub steps : ℕ
     pub last : State
     pub on : ℕ → State
@@ -56,7 +56,7 @@ pub record HasAsked (program : Program) (header : Header) (port : ℕ) (answers 
 -- a run with those answers ends with the verdict, within the budget
 pub record HasEnded (program : Program) (header : Header) (port : ℕ) (answers : List ℕ) (verdict : ℕ) : Type 0 where
   pub calls : List Call
-  pub answered : answers_of calls ≡ answers
+  pub answered : answers_of_calls calls ≡ answers
   pub run : RunsWithin program header port calls verdict
 
 -- The program is at a question exactly if a path with those answers asks it. It is at a verdict exactly if a run with
@@ -71,5 +71,5 @@ pub record StandsByPaths (program : Program) (header : Header) (port : ℕ) (ans
 abbrev pub TurnsArePaths : Type 0
 TurnsArePaths =
     (program : Program) (sizes : Maps) (header : Header) (port : ℕ) (answers : List ℕ)
-    → IsSafe program sizes → IsHeader header → port < 32 → AreWords answers
+    → IsSafe program sizes → IsProgramHeader header → port < 32 → AreWords answers
     → StandsByPaths program header port answers

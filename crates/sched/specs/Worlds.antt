@@ -19,7 +19,7 @@ use Rattle.brun.specs.declared.frame.Frame.{Frame}
 use Rattle.brun.specs.declared.turns.Turn.{Turn}
 use Rattle.brun.specs.declared.turns.Turn.TheVariants as turns
 use Rattle.brun.specs.Pauses.{Turns, AsksWithin}
-use Rattle.plain_cells.specs.Words.{AreCells, word_at}
+use Rattle.plain_cells.specs.Words.{AreCells, key_word_at}
 use Rattle.bank.specs.Admission.{IsPlacedBy}
 use Rattle.bank.specs.Effect.{Memory}
 use Rattle.bank.specs.Records.{BankValue, EntryValue, ShareValue, base_of, first_share, memory_of, numbers_of}
@@ -34,10 +34,10 @@ use Rattle.sched.specs.declared.event.Outcome.{Outcome}
 use Rattle.sched.specs.declared.faults.WorldFault.{WorldFault}
 use Rattle.sched.specs.declared.faults.WorldFault.TheVariants.{Memory as NoMemory, Config, Image}
 use Rattle.sched.specs.History.{History, Then, Open, opened}
-use Rattle.sched.specs.Looking.{Node, windows_in, header_in, staging, published, publishes, program_of, turn_of}
+use Rattle.sched.specs.Looking.{Node, windows_in, seen_header_in, staging, published, publishes, program_of, turn_of}
 use Rattle.sched.specs.Looking.{cell_word, room_of, entries, first_memory, memory}
 use Rattle.sched.specs.Lawful.{IsLawful}
-use Rattle.sched.specs.Turns.{answers_of}
+use Rattle.sched.specs.Turns.{answers_of_calls}
 
 -- the node of that configuration, with that factory program, and with those programs published before the first event
 abbrev pub node_with : NodeConfig → Program → (firsts : List (ℕ × Program)) → Node
@@ -102,9 +102,9 @@ generation_in None = None
 generation_in (Some shown) = Some shown.1
 
 -- the staging of a port
-abbrev pub staging_in : Option PortValue → Option Staged
-staging_in None = None
-staging_in (Some p) = Some p.staging
+abbrev pub world_staging_in : Option PortValue → Option Staged
+world_staging_in None = None
+world_staging_in (Some p) = Some p.staging
 
 -- ---- what is known of a world without a history
 
@@ -118,7 +118,7 @@ pub record StandsThere (program : Program) (header : Header) (turn : Turn) (fram
 
 -- The packet is a command. If its program asks a helper, it asks for a cell of the maps for which the program was
 -- accepted.
-pub record IsHeld (r : RunValue) : Type 0 where
+pub record IsCommandHeld (r : RunValue) : Type 0 where
   pub command : discard_of r.packet.bytes ≡ None
   pub within : AsksWithin r.program.sizes r.turn
 
@@ -134,7 +134,7 @@ at_stack_if_any (Some r) stack = Some (at_stack r stack)
 -- the program of the command that is judged is where its turn says
 abbrev pub StandsIfAny : Option RunValue → Type 0
 StandsIfAny None = Unit {0}
-StandsIfAny (Some r) = StandsThere r.program.program (header_in r.packet) r.turn r.frame r.stack
+StandsIfAny (Some r) = StandsThere r.program.program (seen_header_in r.packet) r.turn r.frame r.stack
 
 -- that command is judged, by that program of that generation
 pub record IsRunWith (packet : Cargo) (place : Place) (program : AcceptedValue) (generation : ℕ) (r : RunValue) : Type 0
@@ -145,20 +145,20 @@ pub record IsRunWith (packet : Cargo) (place : Place) (program : AcceptedValue) 
     pub generation_is : r.generation ≡ generation
 
 -- the same command is judged by the same program
-abbrev pub IsSameRun : (old new : RunValue) → Type 0
-IsSameRun old new = IsRunWith old.packet old.place old.program old.generation new
+abbrev pub IsSameCommandRun : (old new : RunValue) → Type 0
+IsSameCommandRun old new = IsRunWith old.packet old.place old.program old.generation new
 
 -- the same, or none before and none now
 abbrev pub IsSameRunIfAny : (old new : Option RunValue) → Type 0
 IsSameRunIfAny None None = Unit {0}
 IsSameRunIfAny None (Some r) = ⊥
 IsSameRunIfAny (Some old) None = ⊥
-IsSameRunIfAny (Some old) (Some new) = IsSameRun old new
+IsSameRunIfAny (Some old) (Some new) = IsSameCommandRun old new
 
 -- a program is at a question
-abbrev pub IsAsk : Turn → Type 0
-IsAsk (turns.Ask question) = Unit {0}
-IsAsk (turns.Verdict verdict) = ⊥
+abbrev pub IsHelperQuestion : Turn → Type 0
+IsHelperQuestion (turns.Ask question) = Unit {0}
+IsHelperQuestion (turns.Verdict verdict) = ⊥
 
 -- where the program of the command that is judged is, if there is one
 abbrev pub turn_in : Option RunValue → Option Turn
@@ -166,9 +166,9 @@ turn_in None = None
 turn_in (Some r) = Some r.turn
 
 -- the program of the command that is judged is at a question
-abbrev pub Asks : Option RunValue → Type 0
-Asks None = ⊥
-Asks (Some r) = IsAsk r.turn
+abbrev pub AsksHelper : Option RunValue → Type 0
+AsksHelper None = ⊥
+AsksHelper (Some r) = IsHelperQuestion r.turn
 
 -- the verdict of a program that is there, if it has one
 abbrev pub verdict_of_turn : Turn → Option ℕ
@@ -254,7 +254,7 @@ pub record IsFor (n : Node) (a : AcceptedValue) : Type 0 where
   pub justified : IsJustified a.program n.sizes
 
 -- What is judged is the open command, by the program of its Take. That program is where the answers since led.
-pub record IsRunOf (n : Node) (port : ℕ) (o : Open) (r : RunValue) : Type 0 where
+pub record IsRunOfOpen (n : Node) (port : ℕ) (o : Open) (r : RunValue) : Type 0 where
   pub packet : r.packet ≡ o.packet
   pub generation : r.generation ≡ o.generation
   pub placed : IsPlacedBy (windows_in n) o.packet r.place
@@ -262,15 +262,15 @@ pub record IsRunOf (n : Node) (port : ℕ) (o : Open) (r : RunValue) : Type 0 wh
   pub accepted : IsFor n r.program
   pub turn : turn_of n port o ≡ Some r.turn
   pub calls : List Call
-  pub answered : answers_of calls ≡ o.answers
-  pub stands : Turns r.program.program (header_in o.packet) port calls r.turn r.frame r.stack
+  pub answered : answers_of_calls calls ≡ o.answers
+  pub stands : Turns r.program.program (seen_header_in o.packet) port calls r.turn r.frame r.stack
 
 -- a command is judged exactly if one is open
 abbrev pub IsJudging : Node → (port : ℕ) → Option Open → Option RunValue → Type 0
 IsJudging n port None None = Unit {0}
 IsJudging n port None (Some r) = ⊥
 IsJudging n port (Some o) None = ⊥
-IsJudging n port (Some o) (Some r) = IsRunOf n port o r
+IsJudging n port (Some o) (Some r) = IsRunOfOpen n port o r
 
 -- the share is the port's, with the number of its next entry
 pub record IsShareWith (port number : ℕ) (share : ShareValue) : Type 0 where
@@ -309,9 +309,9 @@ pub record AreBanksOf (n : Node) (entries_of : ℕ → List EntryValue) (memory_
   pub each : (k : ℕ) (b : BankValue) → slice_get banks k ≡ Some b → IsBankOf n k (entries_of k) (memory_in k) b
 
 -- the word of each cell is that
-abbrev pub AreWordsOf : Maps → (word_of_cell : ℕ → ℕ → ℕ) → List (List ℕ) → Type 0
-AreWordsOf sizes word_of_cell words =
-    (map key : ℕ) → IsInside sizes map key → word_at words map key ≡ word_of_cell map key
+abbrev pub AreCellWords : Maps → (word_of_cell : ℕ → ℕ → ℕ) → List (List ℕ) → Type 0
+AreCellWords sizes word_of_cell words =
+    (map key : ℕ) → IsInside sizes map key → key_word_at words map key ≡ word_of_cell map key
 
 -- what is shown is that program of that generation, accepted for the maps of the node
 pub record IsShownAs (n : Node) (published : Program × ℕ) (shown : AcceptedValue × ℕ) : Type 0 where
@@ -329,7 +329,7 @@ pub record IsWorldOf (n : Node) (h : History) (w : WorldValue) : Type 0 where
   pub windows_are : w.windows ≡ windows_in n
   pub sizes_are : w.sizes ≡ n.sizes
   pub banks_are : AreBanksOf n (entries n h) (memory n h) w.banks
-  pub words_are : AreWordsOf n.sizes (cell_word n h) w.words
+  pub words_are : AreCellWords n.sizes (cell_word n h) w.words
   pub programs_are : AreProgramsOf n (published n h) w.programs
   pub count_is : w.count ≡ publishes n h
   pub ports_are : ArePortsOf n h w.ports
@@ -341,8 +341,8 @@ pub record IsLawfulWorld (n : Node) (h : History) (w : WorldValue) : Type 0 wher
 
 -- After every lawful history of which the old world is the world, the outcome is lawful. The new world is that of the
 -- history with the event and its outcome.
-abbrev pub GoesOn : Event → Outcome → (old new : WorldValue) → Type 0
-GoesOn event outcome old new =
+abbrev pub GoesOnLawfully : Event → Outcome → (old new : WorldValue) → Type 0
+GoesOnLawfully event outcome old new =
     (n : Node) (h : History) → IsLawfulWorld n h old → IsLawfulWorld n (Then h event outcome) new
 
 -- ---- faults

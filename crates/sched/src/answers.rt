@@ -2,7 +2,7 @@
 
 ghost use Rattle.std.specs.Prelude.{◌≡◌, ◌<◌, length};
 ghost use Rattle.sched.specs.Answers.{answering};
-ghost use Rattle.sched.specs.Worlds.{GoesOn};
+ghost use Rattle.sched.specs.Worlds.{GoesOnLawfully};
 ghost use Rattle.sched.specs.declared.event.Outcome.TheVariants.{Refused as RefusedOutcome};
 
 use crate::event::Outcome;
@@ -16,7 +16,7 @@ impl World {
     /// makes of it. The port must be one of the world.
     pub(crate) fn answer(&mut self, port: u8, helper: Helper) -> Outcome
         requires { port < length self.old.ports }
-        ensures goes_on { GoesOn (answering helper port) result self.old self.new }
+        ensures goes_on { GoesOnLawfully (answering helper port) result self.old self.new }
         ensures refused { result ≡ RefusedOutcome → self.new ≡ self.old }
     {
         let at = usize::from(port);
@@ -25,10 +25,10 @@ impl World {
         };
         let argument = self.ports[at].argument();
         let word = self.words.word(map, key);
-        let (told, behind) = answered(helper, word, argument);
-        words_are_small(told);
-        self.words.set(map, key, behind);
-        self.ports[at].tell(told);
-        Outcome::Told(told)
+        let (reported, following) = answered(helper, word, argument);
+        words_are_small(reported);
+        self.words.set(map, key, following);
+        self.ports[at].answer_question(reported);
+        Outcome::Told(reported)
     }
 }

@@ -4,14 +4,14 @@ ghost use Rattle.std.specs.Prelude.{◌≡◌, ◌<◌, length, false, IfOk, OnE
 ghost use Rattle.node_parts.specs.Loads.{wants_memory};
 ghost use Rattle.rmap.specs.BootRecords.{control_of};
 ghost use Rattle.sched.specs.Ends.{IsDecisionOf, IsLoadDecision, ShowsInSlot, count_shown, load_result_of_decision, programs_shown, status_of_decision};
-ghost use Rattle.sched.specs.Worlds.{GoesOn};
+ghost use Rattle.sched.specs.Worlds.{GoesOnLawfully};
 ghost use Rattle.sched.specs.declared.event.Event.TheVariants.{Publish as PublishEvent};
 ghost use Rattle.sched.specs.declared.event.Outcome.TheVariants.{Refused as RefusedOutcome};
 
 use crate::event::Outcome;
 use crate::port::Port;
-use crate::reply::{Reply, reply_room};
-use crate::shown::Shown;
+use crate::reply::{ReplyBytes, reply_room};
+use crate::shown::SlotVersion;
 use crate::world::World;
 use bank::judged_fault;
 use bpf::image_laws;
@@ -30,13 +30,13 @@ pub(crate) enum Decision {
     /// The load is refused.
     NotLoaded(LoadRefusal),
     /// The program is shown in that slot, with its generation.
-    Loaded(u8, Shown),
+    Loaded(u8, SlotVersion),
 }
 
 /// The decision of a load that is refused. If the refusal is a lack of memory, nothing is decided.
 fn not_loaded(refusal: LoadRefusal) -> Result<Decision, AllocError>
     ensures refused { IfOk result (λ decision. decision ≡ Decision.NotLoaded refusal) }
-    ensures told { IfOk result (λ _. wants_memory refusal ≡ false) }
+    ensures reported { IfOk result (λ _. wants_memory refusal ≡ false) }
 {
     if refusal.wants_memory() {
         return Err(AllocError);
@@ -63,7 +63,7 @@ fn load(
     if count == u32::MAX {
         return Ok(Decision::NotLoaded(LoadRefusal::GenerationsFull));
     }
-    let shown = Shown {
+    let shown = SlotVersion {
         program: Arc::new(alloc, accepted)?,
         generation: count + 1,
     };
@@ -72,7 +72,7 @@ fn load(
 
 impl Decision {
     /// The status of the control write, and the load result if a load was decided.
-    fn told(&self) -> (Status, Option<[u8; 8]>)
+    fn reported(&self) -> (Status, Option<[u8; 8]>)
         ensures status { result.0 ≡ status_of_decision self.now }
         ensures loaded { result.1 ≡ load_result_of_decision self.now }
     {
@@ -89,7 +89,7 @@ impl Decision {
     }
 
     /// Shows the program of a load that succeeded.
-    fn show(self, programs: &mut [Shown; 4], count: &mut u32)
+    fn show(self, programs: &mut [SlotVersion; 4], count: &mut u32)
         requires { ShowsInSlot self }
         ensures programs { programs.new ≡ programs_shown programs.old self }
         ensures count { count.new ≡ count_shown count.old self }
@@ -134,7 +134,7 @@ impl World {
     pub(crate) fn publish(&mut self, alloc: Global, port: u8) -> Result<Outcome, AllocError>
         requires { port < length self.old.ports }
         ensures goes_on { IfOk result
-            (λ outcome. GoesOn (PublishEvent port) outcome self.old self.new) }
+            (λ outcome. GoesOnLawfully (PublishEvent port) outcome self.old self.new) }
         ensures same { OnErr result (self.new ≡ self.old) }
         ensures refused { IfOk result
             (λ outcome. outcome ≡ RefusedOutcome → self.new ≡ self.old) }
@@ -146,10 +146,10 @@ impl World {
         };
         let room = reply_room(alloc)?;
         let decision = self.ports[at].decide(alloc, verdict, &self.sizes, self.count)?;
-        let told = decision.told();
-        self.ports[at].end_write(&self.windows, port, verdict, told, &mut self.reply);
+        let reported = decision.reported();
+        self.ports[at].end_write(&self.windows, port, verdict, reported, &mut self.reply);
         decision.show(&mut self.programs, &mut self.count);
-        let (status, loaded) = told;
-        Ok(Outcome::Done(status, Reply::of(room, &self.reply), loaded))
+        let (status, loaded) = reported;
+        Ok(Outcome::Done(status, ReplyBytes::of(room, &self.reply), loaded))
     }
 }

@@ -1,12 +1,12 @@
 //! The event Effect: a judged command takes its effect, at its bank or at its port's staging.
 
 ghost use Rattle.std.specs.Prelude.{◌≡◌, ◌<◌, length, IfOk, OnErr};
-ghost use Rattle.sched.specs.Worlds.{GoesOn};
+ghost use Rattle.sched.specs.Worlds.{GoesOnLawfully};
 ghost use Rattle.sched.specs.declared.event.Event.TheVariants.{Effect as EffectEvent};
 ghost use Rattle.sched.specs.declared.event.Outcome.TheVariants.{Refused as RefusedOutcome};
 
 use crate::event::Outcome;
-use crate::reply::{Reply, reply_room};
+use crate::reply::{ReplyBytes, reply_room};
 use crate::world::World;
 use node_parts::{paired_commands_fit, pairs_stay};
 use std::alloc::{AllocError, Global};
@@ -16,7 +16,7 @@ impl World {
     pub(crate) fn effect(&mut self, alloc: Global, port: u8) -> Result<Outcome, AllocError>
         requires { port < length self.old.ports }
         ensures goes_on { IfOk result
-            (λ outcome. GoesOn (EffectEvent port) outcome self.old self.new) }
+            (λ outcome. GoesOnLawfully (EffectEvent port) outcome self.old self.new) }
         ensures same { OnErr result (self.new ≡ self.old) }
         ensures refused { IfOk result
             (λ outcome. outcome ≡ RefusedOutcome → self.new ≡ self.old) }
@@ -35,6 +35,6 @@ impl World {
             verdict,
             &mut self.reply,
         );
-        Ok(Outcome::Done(status, Reply::of(room, &self.reply), None))
+        Ok(Outcome::Done(status, ReplyBytes::of(room, &self.reply), None))
     }
 }

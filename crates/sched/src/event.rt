@@ -3,7 +3,7 @@
 ghost use Rattle.std.specs.Prelude.{◌≡◌};
 ghost use Rattle.sched.specs.History.{port_of};
 
-use crate::reply::Reply;
+use crate::reply::ReplyBytes;
 use rmap::{Discard, Status};
 use spw::Packet;
 
@@ -48,11 +48,11 @@ pub enum Outcome {
     /// The packet is no command, and gets no reply.
     Discarded(Discard),
     /// A check of the header holds: its status, and the reply that is due.
-    Answered(Status, Reply),
+    Answered(Status, ReplyBytes),
     /// The port took the command, and the program of this generation judges it.
     Taken(u32),
     /// The helper answered this.
     Told(u64),
     /// The command ended with this status and this reply, and with the load result if a load was decided.
-    Done(Status, Reply, Option<[u8; 8]>),
+    Done(Status, ReplyBytes, Option<[u8; 8]>),
 }

@@ -1,10 +1,10 @@
 //! Laws of histories. Each function does no work: its contract is the law.
 
 ghost use Rattle.std.specs.Prelude.{◌<◌, ◌^◌, All};
-ghost use Rattle.machine.specs.Memory.{IsHeader};
+ghost use Rattle.machine.specs.Memory.{IsProgramHeader};
 ghost use Rattle.brun.specs.Runs.{header};
 ghost use Rattle.sched.specs.Agreement.{PublishedAgrees};
-ghost use Rattle.sched.specs.Headline.{BringsBytes, EveryHistoryJudgesOnce, EveryScheduleJudgesOnce, OpenedAreTaken, OpenedBehindDone};
+ghost use Rattle.sched.specs.Headline.{BringsBytes, EveryHistoryJudgesOnce, EveryScheduleJudgesOnce, OpenedAreTaken, OpenedAfterDone};
 ghost use Rattle.sched.specs.Turns.{TurnsArePaths};
 
 use crate::event::Event;
@@ -40,7 +40,7 @@ pub(crate) fn event_brings_bytes(event: &Event)
 
 /// A law and no work: the first four and the last twelve bytes of a command's header are what a program may see.
 pub fn arrays_are_headers(front: &[u8; 4], tail: &[u8; 12])
-    ensures { IsHeader (header front.now tail.now) }
+    ensures { IsProgramHeader (header front.now tail.now) }
 {
     bytes_are_small(front);
     bytes_are_small(tail);
@@ -50,7 +50,7 @@ pub fn arrays_are_headers(front: &[u8; 4], tail: &[u8; 12])
 /// command was done, what is open after it was taken after it. So no command is done twice.
 pub fn opened_are_taken()
     ensures taken { OpenedAreTaken }
-    ensures behind { OpenedBehindDone }
+    ensures following { OpenedAfterDone }
 {}
 
 /// A law and no work: over every schedule each command that is done was judged once. The program that was published

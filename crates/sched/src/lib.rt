@@ -22,7 +22,7 @@ pub use laws::{
     arrays_are_headers, every_history_judges_once, every_schedule_judges_once, opened_are_taken,
     published_agrees, turns_are_paths,
 };
-pub use reply::Reply;
+pub use reply::ReplyBytes;
 pub use schedule::{run_schedule, step};
 pub use standing::Standing;
 pub use world::World;

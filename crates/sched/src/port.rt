@@ -8,12 +8,12 @@ ghost use Rattle.machine.specs.Helpers.{takes_kind};
 ghost use Rattle.machine.specs.Sizes.{IsInside, Maps, kind_of_map};
 ghost use Rattle.bank.specs.Records.{after_command, answer_of, fits, memory_of, next_share};
 ghost use Rattle.node_parts.specs.Stagings.{IsStaged, IsStagingPlace};
-ghost use Rattle.sched.specs.Begins.{BeginsAt};
-ghost use Rattle.sched.specs.Ends.{CanEnd, CanFinish, EndsAt, HasFinished, IsReplyTo, IsWriteUnder, after_write, load_result_kept, share_in, with_share_in};
-ghost use Rattle.sched.specs.History.{Open, after_told};
+ghost use Rattle.sched.specs.BeginsHistory.{BeginsAt};
+ghost use Rattle.sched.specs.Ends.{CanEnd, CanFinish, EndsAt, HasPortFinished, IsReplyTo, IsWriteUnder, after_control_write, load_result_kept, share_in, with_share_in};
+ghost use Rattle.sched.specs.History.{Open, open_after_answer};
 ghost use Rattle.sched.specs.Standing.{IsLent};
 ghost use Rattle.sched.specs.Looking.{Node, argument_asked, cell_asked};
-ghost use Rattle.sched.specs.Worlds.{Asks, IsJudging, IsRunUnderIfAny, IsSameRunIfAny, effect_due, publish_due, turn_in};
+ghost use Rattle.sched.specs.Worlds.{AsksHelper, IsJudging, IsRunUnderIfAny, IsSameRunIfAny, effect_due, publish_due, turn_in};
 
 use crate::run::{Opening, Run};
 use crate::standing::Standing;
@@ -100,7 +100,7 @@ impl Port {
         ensures kind { (windows : WindowsValue) (sizes : Maps)
             → IsRunUnderIfAny windows sizes self.now.run
             → IfSome result (λ cell. IsTrue (takes_kind helper (kind_of_map sizes cell.0))) }
-        ensures asks { IfSome result (λ _. Asks self.now.run) }
+        ensures asks { IfSome result (λ _. AsksHelper self.now.run) }
     {
         match &self.run {
             Some(run) => run.asked(helper),
@@ -119,16 +119,16 @@ impl Port {
     }
 
     /// Answers the question at which the program is, and goes on.
-    pub fn tell(&mut self, told: u64)
-        requires { Asks self.old.run }
+    pub fn answer_question(&mut self, reported: u64)
+        requires { AsksHelper self.old.run }
         ensures rest { self.new ≡ record self.old { run = self.new.run } }
         ensures same { IsSameRunIfAny self.old.run self.new.run }
         ensures run { (n : Node) (port : ℕ) (last : Option Open) → port < 32
             → IsJudging n port last self.old.run
-            → IsJudging n port (after_told told last) self.new.run }
+            → IsJudging n port (open_after_answer reported last) self.new.run }
     {
         match &mut self.run {
-            Some(run) => run.tell(told, &mut self.stack),
+            Some(run) => run.answer_question(reported, &mut self.stack),
             None => unreachable!(),
         }
     }
@@ -209,7 +209,7 @@ impl Port {
         reply: &mut ReplyBuf,
     ) -> Status
         requires { CanFinish windows.now banks.old port verdict self.old self.old.run }
-        ensures { HasFinished banks.old banks.new port verdict
+        ensures { HasPortFinished banks.old banks.new port verdict
             self.old self.new self.old.run result reply.new }
     {
         match self.run.take() {
@@ -229,14 +229,14 @@ impl Port {
         windows: &Windows,
         port: u8,
         verdict: u64,
-        told: (Status, Option<[u8; 8]>),
+        reported: (Status, Option<[u8; 8]>),
         reply: &mut ReplyBuf,
     )
         requires { IsWriteUnder windows.now self.old.run }
-        ensures port { self.new ≡ after_write told.1 self.old }
-        ensures reply { IsReplyTo self.old.run told.0 reply.new }
+        ensures port { self.new ≡ after_control_write reported.1 self.old }
+        ensures reply { IsReplyTo self.old.run reported.0 reply.new }
     {
-        let (status, loaded) = told;
+        let (status, loaded) = reported;
         match self.run.take() {
             Some(run) => run.end(windows, port, verdict).end(status, reply),
             None => unreachable!(),

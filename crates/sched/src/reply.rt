@@ -8,11 +8,11 @@ use std::marker::Model;
 
 /// The bytes of a reply. There are none if no reply is due.
 #[derive(Debug, Drop)]
-pub struct Reply {
+pub struct ReplyBytes {
     bytes: Vec<u8>,
 }
 
-impl Model for Reply {
+impl Model for ReplyBytes {
     ghost use Rattle.std.specs.Prelude.{List, ℕ};
 
     ghost Value = { List ℕ };
@@ -20,9 +20,9 @@ impl Model for Reply {
     ghost view = { λ r. r.bytes.items };
 }
 
-impl Reply {
+impl ReplyBytes {
     /// The reply that the buffer holds, in room that the caller took before.
-    pub(crate) fn of(mut room: Vec<u8>, reply: &ReplyBuf) -> Reply
+    pub(crate) fn of(mut room: Vec<u8>, reply: &ReplyBuf) -> ReplyBytes
         requires empty { room.items ≡ [] }
         requires enough { MAX_REPLY ≤ vec_capacity room }
         ensures { result ≡ reply.now }
@@ -30,7 +30,7 @@ impl Reply {
         if room.extend_from_slice(reply.bytes()).is_err() {
             unreachable!();
         }
-        Reply { bytes: room }
+        ReplyBytes { bytes: room }
     }
 
     /// The bytes.

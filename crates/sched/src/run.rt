@@ -4,17 +4,17 @@ ghost use Rattle.std.specs.Prelude.{◌≡◌, ◌<◌, ℕ, List, Some, IfSome,
 ghost use Rattle.std.specs.Arc.{arc_value};
 ghost use Rattle.rmap.specs.Command.{command_of, discard_of};
 ghost use Rattle.machine.specs.declared.calls.Call.{Call};
-ghost use Rattle.machine.specs.Memory.{IsHeader};
+ghost use Rattle.machine.specs.Memory.{IsProgramHeader};
 ghost use Rattle.machine.specs.Helpers.{takes_kind};
 ghost use Rattle.machine.specs.Sizes.{IsInside, kind_of_map};
 ghost use Rattle.bank.specs.Admission.{IsPlacedBy};
 ghost use Rattle.brun.specs.Pauses.{AsksWithin, IsAt, IsPaused, Turns};
-ghost use Rattle.sched.specs.Begins.{HasBegun};
+ghost use Rattle.sched.specs.BeginsHistory.{HasBegun};
 ghost use Rattle.sched.specs.Ends.{judged_with};
 ghost use Rattle.sched.specs.History.{Open, with_answer};
 ghost use Rattle.sched.specs.Standing.{IsLentOf};
-ghost use Rattle.sched.specs.Looking.{Node, argument_asked, cell_asked, header_in};
-ghost use Rattle.sched.specs.Worlds.{IsAsk, IsRunOf, IsSameRun, StandsIfAny, at_stack, verdict_of_turn};
+ghost use Rattle.sched.specs.Looking.{Node, argument_asked, cell_asked, seen_header_in};
+ghost use Rattle.sched.specs.Worlds.{IsHelperQuestion, IsRunOfOpen, IsSameCommandRun, StandsIfAny, at_stack, verdict_of_turn};
 
 use crate::laws::{arrays_are_headers, turns_are_paths};
 use crate::standing::Standing;
@@ -53,11 +53,11 @@ pub(crate) struct Run {
 impl Model for Run {
     ghost use Rattle.std.specs.Prelude.{[]};
     ghost use Rattle.std.specs.Arc.{arc_value};
-    ghost use Rattle.sched.specs.Worlds.{RunValue, IsHeld};
+    ghost use Rattle.sched.specs.Worlds.{RunValue, IsCommandHeld};
 
     ghost Value = { RunValue };
 
-    ghost invariant = { λ r. IsHeld (record { packet = r.packet; place = r.place; program = arc_value r.program; generation = r.generation; turn = r.turn; frame = r.paused; stack = [] }) };
+    ghost invariant = { λ r. IsCommandHeld (record { packet = r.packet; place = r.place; program = arc_value r.program; generation = r.generation; turn = r.turn; frame = r.paused; stack = [] }) };
 
     ghost view = { λ r. record { packet = r.packet; place = r.place; program = arc_value r.program; generation = r.generation; turn = r.turn; frame = r.paused; stack = [] } };
 }
@@ -70,12 +70,12 @@ fn go_on(
     paused: &mut Paused,
 ) -> Turn
     requires command { discard_of packet.now.bytes ≡ None }
-    requires paused { IsPaused program.now.program (header_in packet.now) paused.old stack.old }
+    requires paused { IsPaused program.now.program (seen_header_in packet.now) paused.old stack.old }
     ensures turns { (port : ℕ) (calls : List Call) → port < 32
-        → IsAt program.now.program (header_in packet.now) port calls paused.old stack.old
-        → Turns program.now.program (header_in packet.now) port calls result paused.new stack.new }
+        → IsAt program.now.program (seen_header_in packet.now) port calls paused.old stack.old
+        → Turns program.now.program (seen_header_in packet.now) port calls result paused.new stack.new }
     ensures within { AsksWithin program.now.sizes result }
-    ensures header { IsHeader (header_in packet.now) }
+    ensures header { IsProgramHeader (seen_header_in packet.now) }
 {
     let command = Command::again(packet);
     arrays_are_headers(command.front(), command.tail());
@@ -128,7 +128,7 @@ impl Run {
         ensures inside { IfSome result (λ cell. IsInside self.now.program.sizes cell.0 cell.1) }
         ensures kind { IfSome result (λ cell.
             IsTrue (takes_kind helper (kind_of_map self.now.program.sizes cell.0))) }
-        ensures asks { IfSome result (λ _. IsAsk self.now.turn) }
+        ensures asks { IfSome result (λ _. IsHelperQuestion self.now.turn) }
     {
         match self.turn {
             Turn::Ask(asked) if asked.helper.number() == helper.number() => {
@@ -149,18 +149,18 @@ impl Run {
     }
 
     /// Answers the question at which the program is, and goes on.
-    pub fn tell(&mut self, told: u64, stack: &mut [u8; STACK_SIZE])
-        requires asks { IsAsk self.old.turn }
+    pub fn answer_question(&mut self, reported: u64, stack: &mut [u8; STACK_SIZE])
+        requires asks { IsHelperQuestion self.old.turn }
         requires stands { StandsIfAny (Some (at_stack self.old stack.old)) }
-        ensures same { IsSameRun (at_stack self.old stack.old) (at_stack self.new stack.new) }
+        ensures same { IsSameCommandRun (at_stack self.old stack.old) (at_stack self.new stack.new) }
         ensures stands { StandsIfAny (Some (at_stack self.new stack.new)) }
         ensures run { (n : Node) (port : ℕ) (o : Open) → port < 32
-            → IsRunOf n port o (at_stack self.old stack.old)
-            → IsRunOf n port (with_answer told o) (at_stack self.new stack.new) }
+            → IsRunOfOpen n port o (at_stack self.old stack.old)
+            → IsRunOfOpen n port (with_answer reported o) (at_stack self.new stack.new) }
     {
         turns_are_paths();
         justified_programs();
-        answer(&mut self.paused, told);
+        answer(&mut self.paused, reported);
         self.turn = go_on(&self.program, &self.packet, stack, &mut self.paused);
     }
 
@@ -174,7 +174,7 @@ impl Run {
     /// The command, as it is now.
     pub fn standing(&self) -> Standing<'_>
         ensures { (n : Node) (port : ℕ) (o : Open) (stack : List ℕ)
-            → IsRunOf n port o (at_stack self.now stack) → IsLentOf n port o result }
+            → IsRunOfOpen n port o (at_stack self.now stack) → IsLentOf n port o result }
     {
         let command = self.command();
         Standing {

@@ -5,7 +5,7 @@ ghost use Rattle.node_parts.specs.Nodes.{limit_fault};
 ghost use Rattle.sched.specs.Headline.{AreJudgedOnce};
 ghost use Rattle.sched.specs.History.{Start, history_from};
 ghost use Rattle.sched.specs.Lawful.{IsLawful};
-ghost use Rattle.sched.specs.Worlds.{GoesOn, IsWorldFault, IsWorldOf, node_of};
+ghost use Rattle.sched.specs.Worlds.{GoesOnLawfully, IsWorldFault, IsWorldOf, node_of};
 ghost use Rattle.sched.specs.declared.event.Outcome.TheVariants.{Refused as RefusedOutcome};
 
 use crate::event::{Event, Outcome};
@@ -26,7 +26,7 @@ use std::alloc::Global;
 pub fn step(alloc: Global, world: &mut World, event: Event) -> Result<Outcome, WorldFault>
     // After every lawful history of which it was the world, the outcome is lawful, and it is the world of the longer
     // one.
-    ensures goes_on { IfOk result (λ outcome. GoesOn event outcome world.old world.new) }
+    ensures goes_on { IfOk result (λ outcome. GoesOnLawfully event outcome world.old world.new) }
 
     ensures fault { IfErr result (λ fault. fault ≡ WorldFault.Memory) }
     ensures same { OnErr result (world.new ≡ world.old) }

@@ -10,12 +10,12 @@ use std::sync::Arc;
 
 /// The program of a slot, with its generation.
 #[derive(Drop)]
-pub(crate) struct Shown {
+pub(crate) struct SlotVersion {
     pub program: Arc<Accepted>,
     pub generation: u32,
 }
 
-impl Model for Shown {
+impl Model for SlotVersion {
     ghost use Rattle.std.specs.Arc.{arc_value};
     ghost use Rattle.bver.specs.Justified.{AcceptedValue};
     ghost use Rattle.std.specs.Prelude.{ℕ};
@@ -25,16 +25,16 @@ impl Model for Shown {
     ghost view = { λ s. (arc_value s.program, s.generation) };
 }
 
-impl Shown {
+impl SlotVersion {
     /// The program, with generation 0.
     ///
     /// # Errors
     ///
     /// `AllocError` if memory was refused.
-    pub fn first(program: &Arc<Accepted>) -> Result<Shown, AllocError>
+    pub fn first(program: &Arc<Accepted>) -> Result<SlotVersion, AllocError>
         ensures { IfOk result (λ shown. shown ≡ (arc_value program.now, 0)) }
     {
-        Ok(Shown {
+        Ok(SlotVersion {
             program: Arc::try_clone(program)?,
             generation: 0,
         })

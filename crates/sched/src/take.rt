@@ -4,14 +4,14 @@ ghost use Rattle.std.specs.Prelude.{◌≡◌, ◌<◌, ℕ, None, [], length, I
 ghost use Rattle.std.specs.Arc.{arc_value};
 ghost use Rattle.rmap.specs.Command.{discard_of};
 ghost use Rattle.bank.specs.Admission.{IsPlacedBy};
-ghost use Rattle.sched.specs.Begins.{HasBegun, IsBegun};
+ghost use Rattle.sched.specs.BeginsHistory.{HasBegun, IsBegun};
 ghost use Rattle.sched.specs.Lawful.{stop_outcome};
-ghost use Rattle.sched.specs.Worlds.{GoesOn, RunValue};
+ghost use Rattle.sched.specs.Worlds.{GoesOnLawfully, RunValue};
 ghost use Rattle.sched.specs.declared.event.Event.TheVariants.{Take as TakeEvent};
 ghost use Rattle.sched.specs.declared.event.Outcome.TheVariants.{Refused as RefusedOutcome};
 
 use crate::event::Outcome;
-use crate::reply::{Reply, reply_room};
+use crate::reply::{ReplyBytes, reply_room};
 use crate::run::Opening;
 use crate::world::World;
 use bank::Admitted;
@@ -29,7 +29,7 @@ fn stopped(alloc: Global, stop: Stop, reply: &ReplyBuf) -> Result<Outcome, Alloc
         Stop::Discarded(discard) => Ok(Outcome::Discarded(discard)),
         Stop::Answered(status) => {
             let room = reply_room(alloc)?;
-            Ok(Outcome::Answered(status, Reply::of(room, reply)))
+            Ok(Outcome::Answered(status, ReplyBytes::of(room, reply)))
         }
     }
 }
@@ -66,7 +66,7 @@ impl World {
     ) -> Result<Outcome, AllocError>
         requires { port < length self.old.ports }
         ensures goes_on { IfOk result
-            (λ outcome. GoesOn (TakeEvent port packet) outcome self.old self.new) }
+            (λ outcome. GoesOnLawfully (TakeEvent port packet) outcome self.old self.new) }
         ensures same { OnErr result (self.new ≡ self.old) }
         ensures refused { IfOk result
             (λ outcome. outcome ≡ RefusedOutcome → self.new ≡ self.old) }

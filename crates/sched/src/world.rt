@@ -5,17 +5,17 @@ ghost use Rattle.std.specs.Arc.{arc_value};
 ghost use Rattle.std.specs.List.{range_with_len};
 ghost use Rattle.machine.specs.Sizes.{IsInside};
 ghost use Rattle.node_parts.specs.Nodes.{ArePortShares, AreSharesOf, fresh_banks, limit_fault};
-ghost use Rattle.sched.specs.Firsts.{AddsFirst, IsFirst, slot_with_program};
+ghost use Rattle.sched.specs.Firsts.{AddsFirst, IsFirstOfWorld, slot_with_program};
 ghost use Rattle.sched.specs.Headline.{IsNode};
 ghost use Rattle.sched.specs.History.{History, Start, opened};
 ghost use Rattle.sched.specs.Standing.{IsLent};
 ghost use Rattle.sched.specs.Looking.{Node};
-ghost use Rattle.sched.specs.Worlds.{IsUnmade, IsWorldFault, IsWorldOf, first_port, generation_in, node_of, node_with, shown_in_all, staging_in};
-ghost use Rattle.plain_cells.specs.Words.{word_at, word_in};
+ghost use Rattle.sched.specs.Worlds.{IsUnmade, IsWorldFault, IsWorldOf, first_port, generation_in, node_of, node_with, shown_in_all, world_staging_in};
+ghost use Rattle.plain_cells.specs.Words.{key_word_at, word_in};
 
 use crate::faults::WorldFault;
 use crate::port::Port;
-use crate::shown::Shown;
+use crate::shown::SlotVersion;
 use crate::standing::Standing;
 use bank::Bank;
 use bpf::Image;
@@ -39,7 +39,7 @@ pub struct World {
     pub(crate) sizes: MapSizes,
     pub(crate) banks: Banks,
     pub(crate) words: CellWords,
-    pub(crate) programs: [Shown; 4],
+    pub(crate) programs: [SlotVersion; 4],
     pub(crate) count: u32,
     pub(crate) ports: Vec<Port>,
     pub(crate) reply: ReplyBuf,
@@ -66,14 +66,14 @@ fn accepted(alloc: Global, factory: &Image, maps: &MapSizes) -> Result<Accepted,
 }
 
 /// The program in each slot, of generation 0.
-fn in_all_slots(program: Arc<Accepted>) -> Result<[Shown; 4], AllocError>
+fn in_all_slots(program: Arc<Accepted>) -> Result<[SlotVersion; 4], AllocError>
     ensures { IfOk result (λ shown. shown ≡ shown_in_all (arc_value program)) }
 {
     Ok([
-        Shown::first(&program)?,
-        Shown::first(&program)?,
-        Shown::first(&program)?,
-        Shown::first(&program)?,
+        SlotVersion::first(&program)?,
+        SlotVersion::first(&program)?,
+        SlotVersion::first(&program)?,
+        SlotVersion::first(&program)?,
     ])
 }
 
@@ -149,7 +149,7 @@ impl World {
         firsts: &[(u8, Accepted)],
     ) -> Result<World, WorldFault>
         requires factory { factory.sizes ≡ config.now.sizes }
-        requires firsts { All (IsFirst config.now.sizes) firsts.now }
+        requires firsts { All (IsFirstOfWorld config.now.sizes) firsts.now }
         requires few { length firsts.now ≤ 4294967295 }
         ensures world { IfOk result
             (IsWorldOf (node_with config.now factory.program (map slot_with_program firsts.now)) Start) }
@@ -175,12 +175,12 @@ impl World {
         slot: u8,
         program: Accepted,
     ) -> Result<(), AllocError>
-        requires first { IsFirst self.old.sizes (slot, program) }
+        requires first { IsFirstOfWorld self.old.sizes (slot, program) }
         requires few { self.old.count < 4294967295 }
         ensures { OnOk result (AddsFirst (slot, program) self.old self.new) }
     {
         let _justified = program.image();
-        let shown = Shown {
+        let shown = SlotVersion {
             program: Arc::new(alloc, program)?,
             generation: self.count + 1,
         };
@@ -247,7 +247,7 @@ impl World {
     pub fn word(&self, map: u8, key: u16) -> Option<u64>
         ensures value { result ≡ word_in self.now.words map key }
         ensures inside { IsInside self.now.sizes map key
-            → result ≡ Some (word_at self.now.words map key) }
+            → result ≡ Some (key_word_at self.now.words map key) }
     {
         self.words.get(map, key)
     }
@@ -264,7 +264,7 @@ impl World {
     /// The staging of a port, with the result of its last load, or `None` if there is no such port.
     pub fn staging(&self, port: u8) -> Option<&Staging>
         ensures { option_map (λ staging. staging.now) result
-            ≡ staging_in (slice_get self.now.ports port) }
+            ≡ world_staging_in (slice_get self.now.ports port) }
     {
         match self.ports.get(usize::from(port)) {
             Some(port) => Some(port.staging()),

@@ -1,10 +1,10 @@
 -- The image that is lent, how a slot is found if its program was not mended, and why no more programs are published.
 use Rattle.std.proofs.Common.{◌≡◌, ◌≢◌, ◌<◌, ◌≤◌, ◌^◌, ◌⊎◌, ℕ, zero, suc, Bool, List, [], length, false, true, inl, inr, arith}
 use Rattle.bpf.specs.Program.{Program, image_bytes}
-use Rattle.bpf.specs.Reading.{Fails, image_reading}
+use Rattle.bpf.specs.Reading.{FailsReading, image_reading}
 use Rattle.bpf.specs.declared.fault.ImageFault.{ImageFault}
 use Rattle.bpf.specs.declared.fault.ImageFault.TheVariants as faults
-use Rattle.bver.specs.Unjustified.{TellsUnjustified}
+use Rattle.bver.specs.Unjustified.{ReportsUnjustified}
 use Rattle.bver_form.specs.declared.refusal.Refusal.TheVariants.{Memory as RefusedMemory}
 use Rattle.bver_form.specs.declared.refusal.Refused.{Refused}
 use Rattle.machine.specs.Sizes.{Maps}
@@ -13,7 +13,7 @@ use Rattle.node_programs.specs.declared.faults.PublishFault.TheVariants.{Generat
 use Rattle.scrub.specs.Guarded.{IsPublishedAs, IsWithdrawn, LooksAt, PublishesAs, Repairs, RepairsUnless, Scrubs, ScrubsSlot, Watched, health_at, health_by}
 use Rattle.scrub.specs.declared.guard.Scrubbed.{Scrubbed}
 use Rattle.scrub.specs.declared.kept.SlotSums.{SlotSums}
-use Rattle.scrub.specs.Mending.{IsUnlent, IsUnread, empty, read_fault, refused as refused_by, unspelled}
+use Rattle.scrub.specs.Mending.{IsUnlent, IsProgramUnread, empty, read_fault, refused as refused_by, unspelled}
 use Rattle.scrub.specs.declared.guard.Health.{Health}
 use Rattle.scrub.specs.declared.guard.Health.TheVariants.{Whole, Mended, Unmended, Withdrawn}
 use Rattle.scrub.specs.declared.made.MendFault.{MendFault}
@@ -30,11 +30,11 @@ pub no_more : (count : ℕ) → IsUnpublished count GenerationsFull → 2 ^ 32 �
 no_more count is = at_least (2 ^ 32) count (λ low. cc (is.memory low))
 
 -- from no bytes no program is read
-pub empty_image : (sizes : Maps) (image : List ℕ) → image ≡ [] → IsUnread sizes image Image
+pub empty_image : (sizes : Maps) (image : List ℕ) → image ≡ [] → IsProgramUnread sizes image Image
 empty_image sizes image none = empty none
 
 -- why no program is read, by the fault of its image
-pub unread : (sizes : Maps) (image : List ℕ) (fault : ImageFault) → image ≢ [] → Fails fault (image_reading image) → IsUnread sizes image (read_fault fault)
+pub unread : (sizes : Maps) (image : List ℕ) (fault : ImageFault) → image ≢ [] → FailsReading fault (image_reading image) → IsProgramUnread sizes image (read_fault fault)
 unread sizes image faults.Memory some fails = some
 unread sizes image faults.Magic some fails = unspelled faults.Magic (λ e. absurd (cc e)) fails
 unread sizes image faults.Version some fails = unspelled faults.Version (λ e. absurd (cc e)) fails
@@ -45,12 +45,12 @@ unread sizes image faults.Loop some fails = unspelled faults.Loop (λ e. absurd 
 unread sizes image (faults.Insn slot fault) some fails = unspelled (faults.Insn slot fault) (λ e. absurd (cc e)) fails
 
 -- the verifier refuses the program that the bytes spell
-pub refused : (sizes : Maps) (image : List ℕ) (program : Program) (told : Refused) → image ≡ image_bytes program → TellsUnjustified program sizes told → told.code ≢ RefusedMemory → IsUnread sizes image Image
-refused sizes image program told spelled tells other =
-    refused_by (record { program = program; spelled = spelled; unjustified = λ justified. tells other justified })
+pub refused : (sizes : Maps) (image : List ℕ) (program : Program) (reported : Refused) → image ≡ image_bytes program → ReportsUnjustified program sizes reported → reported.code ≢ RefusedMemory → IsProgramUnread sizes image Image
+refused sizes image program reported spelled reports other =
+    refused_by (record { program = program; spelled = spelled; unjustified = λ justified. reports other justified })
 
 -- if no program is read, no sum is taken
-pub unlent : (sizes : Maps) (image : List ℕ) (kept : SlotSums) (fault : MendFault) → IsUnread sizes image fault → IsUnlent sizes image kept fault
+pub unlent : (sizes : Maps) (image : List ℕ) (kept : SlotSums) (fault : MendFault) → IsProgramUnread sizes image fault → IsUnlent sizes image kept fault
 unlent sizes image kept Memory is = is
 unlent sizes image kept Image is = inl is
 unlent sizes image kept Full is = is
@@ -73,11 +73,11 @@ pub scrubs_whole : (whole : Bool) (health : Health) (slot : ℕ) (before after :
 scrubs_whole true health slot before after is looks found = inl (found, looks)
 scrubs_whole false health slot before after is looks found = absurd (cc is)
 
-pub scrubs_all : (whole : Bool) (told : Scrubbed) (health : Health) (slot : ℕ) (before between after : Watched) → whole ≡ false → LooksAt whole slot before between → Scrubs told [] between after → health ≡ health_at told slot
+pub scrubs_all : (whole : Bool) (reported : Scrubbed) (health : Health) (slot : ℕ) (before between after : Watched) → whole ≡ false → LooksAt whole slot before between → Scrubs reported [] between after → health ≡ health_at reported slot
     → ScrubsSlot health slot before after
-scrubs_all true told health slot before between after is looks scrubs found = absurd (cc is)
-scrubs_all false told health slot before between after is looks scrubs found =
-    inr (record { between = between; told = told; found = looks; scrubs = scrubs; health_is = found })
+scrubs_all true reported health slot before between after is looks scrubs found = absurd (cc is)
+scrubs_all false reported health slot before between after is looks scrubs found =
+    inr (record { between = between; reported = reported; found = looks; scrubs = scrubs; health_is = found })
 
 -- a slot that is repaired unless it is whole
 pub repairs_none : (whole : Bool) (health : Health) (slot : ℕ) (image : List ℕ) (before after : Watched) → whole ≡ true → health ≡ Whole → after ≡ before → RepairsUnless whole health slot image before after

@@ -6,9 +6,9 @@ use Rattle.node_programs.specs.Published.{generation_at}
 use Rattle.scrub.specs.declared.kept.SlotSums.{SlotSums}
 use Rattle.scrub.specs.Guarded.{AnswersBy, AnswersRead, AnswersUnread, FindsAt, FindsNothing, IsRemade, ScrubsFirst, Watched, counting_on}
 use Rattle.scrub.specs.Counting.{counted, renewed}
-use Rattle.scrub.specs.declared.guard.Found.{Found}
+use Rattle.scrub.specs.declared.guard.ScrubFindings.{ScrubFindings}
 use Rattle.scrub.specs.Kept.{AreFresh, FollowAt, closed_in, is_withheld}
-use Rattle.single_node.specs.declared.served.Told.{Told}
+use Rattle.single_node.specs.declared.served.ServedDetail.{ServedDetail}
 use Rattle.spw.specs.Cargo.{Cargo}
 
 -- if no slot is withdrawn, none withholds a command
@@ -38,15 +38,15 @@ pub follow_found : (before after : List Publish) (slot : ℕ) (old : Option Slot
 follow_found before after slot old kept left found follow = subst (λ (o : Option SlotSums). FollowAt before after slot o (Some left)) (sym found) follow
 
 -- what becomes of a packet, by whether its slot is withdrawn
-pub by_withheld : (withheld : Bool) (told : Told) (size port : ℕ) (packet : Cargo) (before after : Watched) (room left : List ℕ) → withheld ≡ true → AnswersUnread told size packet before after room left
-    → AnswersBy withheld told size port packet before after room left
-by_withheld true told size port packet before after room left is answers = answers
-by_withheld false told size port packet before after room left is answers = absurd (cc is)
+pub by_withheld : (withheld : Bool) (reported : ServedDetail) (size port : ℕ) (packet : Cargo) (before after : Watched) (room left : List ℕ) → withheld ≡ true → AnswersUnread reported size packet before after room left
+    → AnswersBy withheld reported size port packet before after room left
+by_withheld true reported size port packet before after room left is answers = answers
+by_withheld false reported size port packet before after room left is answers = absurd (cc is)
 
-pub by_read : (withheld : Bool) (told : Told) (size port : ℕ) (packet : Cargo) (before after : Watched) (room left : List ℕ) → withheld ≡ false → AnswersRead told size port packet before after room left
-    → AnswersBy withheld told size port packet before after room left
-by_read true told size port packet before after room left is serves = absurd (cc is)
-by_read false told size port packet before after room left is serves = serves
+pub by_read : (withheld : Bool) (reported : ServedDetail) (size port : ℕ) (packet : Cargo) (before after : Watched) (room left : List ℕ) → withheld ≡ false → AnswersRead reported size port packet before after room left
+    → AnswersBy withheld reported size port packet before after room left
+by_read true reported size port packet before after room left is serves = absurd (cc is)
+by_read false reported size port packet before after room left is serves = serves
 
 -- a program that is published changes no bank and no port
 remade_same : (slot : ℕ) (image : List ℕ) (kept : SlotSums) (before after : Watched) → IsRemade slot image kept before after → (after.node.banks ≡ before.node.banks) × (after.node.passes ≡ before.node.passes)
@@ -62,17 +62,17 @@ pub remade_ports : (slot : ℕ) (image : List ℕ) (kept : SlotSums) (before aft
 remade_ports slot image kept before after is = (remade_same slot image kept before after is).1
 
 -- which slot is scrubbed first
-pub first_not : (due : Bool) (slot : Option ℕ) (found : Option Found) (before after : Watched) → due ≡ false → FindsNothing found (counting_on before (counted before.guard.counting)) after
+pub first_not : (due : Bool) (slot : Option ℕ) (found : Option ScrubFindings) (before after : Watched) → due ≡ false → FindsNothing found (counting_on before (counted before.guard.counting)) after
     → ScrubsFirst due slot found before after
 first_not true slot found before after is nothing = absurd (cc is)
 first_not false slot found before after is nothing = nothing
 
-pub first_none : (due : Bool) (slot : Option ℕ) (found : Option Found) (before after : Watched) → due ≡ true → slot ≡ None → FindsNothing found before after → ScrubsFirst due slot found before after
+pub first_none : (due : Bool) (slot : Option ℕ) (found : Option ScrubFindings) (before after : Watched) → due ≡ true → slot ≡ None → FindsNothing found before after → ScrubsFirst due slot found before after
 first_none false slot found before after is none nothing = absurd (cc is)
 first_none true None found before after is none nothing = nothing
 first_none true (Some s) found before after is none nothing = absurd (cc none)
 
-pub first_some : (due : Bool) (slot : Option ℕ) (s : ℕ) (found : Option Found) (before after : Watched) → due ≡ true → slot ≡ Some s → FindsAt s found (counting_on before (renewed before.guard.counting)) after
+pub first_some : (due : Bool) (slot : Option ℕ) (s : ℕ) (found : Option ScrubFindings) (before after : Watched) → due ≡ true → slot ≡ Some s → FindsAt s found (counting_on before (renewed before.guard.counting)) after
     → ScrubsFirst due slot found before after
 first_some false slot s found before after is some finds = absurd (cc is)
 first_some true slot s found before after is some finds =

@@ -3,17 +3,17 @@ use Rattle.std.specs.Prelude.{ℕ, ◌-◌, ◌^◌, ◌==◌, ◌&&◌, nat_le,
 use Rattle.scrub.specs.declared.counting.Counting.{Counting}
 
 -- the complement of a number of 32 bits: each of its bits is the other one
-abbrev pub complement : ℕ → ℕ
-complement number = 2 ^ 32 - 1 - number
+abbrev pub complement_of_count : ℕ → ℕ
+complement_of_count number = 2 ^ 32 - 1 - number
 
 -- these numbers, each beside its complement
 abbrev pub counting_of : (each left : ℕ) → Counting
 counting_of each left =
-    record { each = each; left = left; each_kept = complement each; left_kept = complement left }
+    record { each = each; left = left; each_kept = complement_of_count each; left_kept = complement_of_count left }
 
 -- each number agrees with its complement
 abbrev pub agrees : Counting → Bool
-agrees c = (c.each_kept == complement c.each) && (c.left_kept == complement c.left)
+agrees c = (c.each_kept == complement_of_count c.each) && (c.left_kept == complement_of_count c.left)
 
 -- if the numbers agree, a scrub is due before the last packet of that many, if they are counted
 abbrev pub is_last : (each left : ℕ) → Bool

@@ -5,16 +5,16 @@ use Rattle.bank.specs.Records.{BankValue, EntryValue, is_whole}
 use Rattle.machine.specs.Sizes.{Maps}
 use Rattle.node_parts.specs.Passes.{PassValue}
 use Rattle.node_programs.specs.Published.{sizes_of}
-use Rattle.scrub.specs.declared.damage.Broken.{Broken}
+use Rattle.scrub.specs.declared.damage.BrokenBits.{BrokenBits}
 use Rattle.single_node.specs.Nodes.{SingleNodeValue}
 use Rattle.sums.specs.Sums.{after_word}
 
 -- ---- journals
 
 -- the first place of an entry that is not whole, of one that may be, and of those after it
-abbrev pub place_with : (whole : Bool) → (behind : Option ℕ) → Option ℕ
-place_with false behind = Some 0
-place_with true behind = option_map (λ place. place + 1) behind
+abbrev pub place_with : (whole : Bool) → (following : Option ℕ) → Option ℕ
+place_with false following = Some 0
+place_with true following = option_map (λ place. place + 1) following
 
 -- the place of the first entry of a list that is not whole, if one is not
 abbrev pub broken_place : List EntryValue → Option ℕ
@@ -32,32 +32,32 @@ broken_bit None bit = 0
 broken_bit (Some place) bit = bit
 
 -- the first place, if there is one, else the next
-abbrev pub first_of : (first next : Option ℕ) → Option ℕ
-first_of None next = next
-first_of (Some place) next = Some place
+abbrev pub first_place_of : (first next : Option ℕ) → Option ℕ
+first_place_of None next = next
+first_place_of (Some place) next = Some place
 
 -- no entry that is not whole
-abbrev pub no_broken : Broken
+abbrev pub no_broken : BrokenBits
 no_broken = record { banks = 0; first = None }
 
 -- the result with one more bank, of that bit
-abbrev pub with_bank : Broken → Option BankValue → (bit : ℕ) → Broken
-with_bank told bank bit = record {
-  banks = told.banks + broken_bit (broken_in bank) bit;
-  first = first_of told.first (broken_in bank);
+abbrev pub with_broken_bank : BrokenBits → Option BankValue → (bit : ℕ) → BrokenBits
+with_broken_bank reported bank bit = record {
+  banks = reported.banks + broken_bit (broken_in bank) bit;
+  first = first_place_of reported.first (broken_in bank);
 }
 
 -- the result for the first four banks
-abbrev pub broken_low : List BankValue → Broken
+abbrev pub broken_low : List BankValue → BrokenBits
 broken_low banks =
-    with_bank (with_bank (with_bank (with_bank no_broken
+    with_broken_bank (with_broken_bank (with_broken_bank (with_broken_bank no_broken
     (slice_get banks 0) 1) (slice_get banks 1) 2) (slice_get banks 2) 4) (slice_get banks 3) 8
 
 -- The result for the banks, of which there are at most eight. It has a bit for each bank with an entry that is not
 -- whole. It also has the place of the first one of the first such bank.
-abbrev pub broken_of : List BankValue → Broken
+abbrev pub broken_of : List BankValue → BrokenBits
 broken_of banks =
-    with_bank (with_bank (with_bank (with_bank (broken_low banks)
+    with_broken_bank (with_broken_bank (with_broken_bank (with_broken_bank (broken_low banks)
     (slice_get banks 4) 16) (slice_get banks 5) 32) (slice_get banks 6) 64) (slice_get banks 7) 128
 
 -- ---- sizes
@@ -76,15 +76,15 @@ after_ranges sum banks =
     (slice_get banks 4)) (slice_get banks 5)) (slice_get banks 6)) (slice_get banks 7)
 
 -- the sum after the range of a bank by the windows of a node, if they have that bank
-abbrev pub after_place : (sum : ℕ) → Option (ℕ × ℕ) → ℕ
-after_place sum None = sum
-after_place sum (Some place) = after_word (after_word sum place.0) place.1
+abbrev pub sum_after_place : (sum : ℕ) → Option (ℕ × ℕ) → ℕ
+sum_after_place sum None = sum
+sum_after_place sum (Some place) = after_word (after_word sum place.0) place.1
 
 -- the sum after the ranges of all banks by them
 abbrev pub after_places : (sum : ℕ) → List (ℕ × ℕ) → ℕ
 after_places sum places =
-    after_place (after_place (after_place (after_place
-    (after_place (after_place (after_place (after_place sum
+    sum_after_place (sum_after_place (sum_after_place (sum_after_place
+    (sum_after_place (sum_after_place (sum_after_place (sum_after_place sum
     (slice_get places 0)) (slice_get places 1)) (slice_get places 2)) (slice_get places 3))
     (slice_get places 4)) (slice_get places 5)) (slice_get places 6)) (slice_get places 7)
 

@@ -6,19 +6,19 @@ use Rattle.node_programs.specs.Published.{program_at, sizes_of}
 use Rattle.rmap.specs.Command.{command_of}
 use Rattle.rmap.specs.Reply.{reply_of}
 use Rattle.rmap.specs.declared.status.Status.TheVariants.{GeneralError}
-use Rattle.single_node.specs.Nodes.{SingleNodeValue, slot_in, with_program}
+use Rattle.single_node.specs.Nodes.{SingleNodeValue, port_slot_in, with_program}
 use Rattle.single_node.specs.Serving.{ServesInto}
 use Rattle.spw.specs.Rooms.{put_front}
-use Rattle.single_node.specs.declared.served.Told.{Told}
+use Rattle.single_node.specs.declared.served.ServedDetail.{ServedDetail}
 use Rattle.spw.specs.Cargo.{Cargo}
-use Rattle.scrub.specs.declared.answer.Answer.{Answer}
+use Rattle.scrub.specs.declared.answer.ServedAnswer.{ServedAnswer}
 use Rattle.scrub.specs.declared.guarded.GuardedNode.{GuardedNode}
-use Rattle.scrub.specs.declared.guard.Found.{Found}
+use Rattle.scrub.specs.declared.guard.ScrubFindings.{ScrubFindings}
 use Rattle.scrub.specs.declared.guard.Guard.{Guard}
 use Rattle.scrub.specs.declared.guard.Health.{Health}
 use Rattle.scrub.specs.declared.guard.Health.TheVariants.{Whole, Mended, Unmended, Withdrawn}
 use Rattle.scrub.specs.declared.guard.Scrubbed.{Scrubbed}
-use Rattle.scrub.specs.declared.guard.Seen.{Seen}
+use Rattle.scrub.specs.declared.guard.SlotsFound.{SlotsFound}
 use Rattle.scrub.specs.declared.kept.SlotSums.{SlotSums}
 use Rattle.scrub.specs.Counting.{agrees, counted, counting_of, is_due, is_on, renewed}
 use Rattle.scrub.specs.Damage.{sizes_sum}
@@ -161,7 +161,7 @@ RepairsUnless true health slot image before after = (health ≡ Whole) × (after
 RepairsUnless false health slot image before after = Repairs health slot image before after
 
 -- a look at the four slots, one after the other
-pub record Looks (seen : Seen) (before after : Watched) : Type 0 where
+pub record LooksAtSlots (seen : SlotsFound) (before after : Watched) : Type 0 where
   pub one : Watched
   pub two : Watched
   pub three : Watched
@@ -171,30 +171,30 @@ pub record Looks (seen : Seen) (before after : Watched) : Type 0 where
   pub window : LooksAt seen.window 3 three after
 
 -- A scrub of the four slots: a look at all of them. Then each that was found damaged is repaired, one after the other.
-pub record Scrubs (told : Scrubbed) (image : List ℕ) (before after : Watched) : Type 0 where
-  pub seen : Seen
+pub record Scrubs (reported : Scrubbed) (image : List ℕ) (before after : Watched) : Type 0 where
+  pub seen : SlotsFound
   pub between : Watched
   pub one : Watched
   pub two : Watched
   pub three : Watched
-  pub looks : Looks seen before between
-  pub reads : RepairsUnless seen.reads told.reads 0 image between one
-  pub writes : RepairsUnless seen.writes told.writes 1 image one two
-  pub rmws : RepairsUnless seen.rmws told.rmws 2 image two three
-  pub window : RepairsUnless seen.window told.window 3 image three after
+  pub looks : LooksAtSlots seen before between
+  pub reads : RepairsUnless seen.reads reported.reads 0 image between one
+  pub writes : RepairsUnless seen.writes reported.writes 1 image one two
+  pub rmws : RepairsUnless seen.rmws reported.rmws 2 image two three
+  pub window : RepairsUnless seen.window reported.window 3 image three after
 
 -- How the program of a slot was found. For a slot that does not exist it means nothing.
 abbrev pub health_at : Scrubbed → (slot : ℕ) → Health
-health_at told slot =
-    if slot == 0 then told.reads else (if slot == 1 then told.writes else (if slot == 2 then told.rmws else told.window))
+health_at reported slot =
+    if slot == 0 then reported.reads else (if slot == 1 then reported.writes else (if slot == 2 then reported.rmws else reported.window))
 
 -- the slot was found damaged, and so all slots were scrubbed
 pub record ScrubsAll (health : Health) (slot : ℕ) (before after : Watched) : Type 0 where
   pub between : Watched
-  pub told : Scrubbed
+  pub reported : Scrubbed
   pub found : IsFoundDamaged slot before between
-  pub scrubs : Scrubs told [] between after
-  pub health_is : health ≡ health_at told slot
+  pub scrubs : Scrubs reported [] between after
+  pub health_is : health ≡ health_at reported slot
 
 -- What a scrub of a slot does, whether it was withdrawn before or not. Its program is whole, or all slots are scrubbed.
 abbrev pub ScrubsSlot : Health → (slot : ℕ) → (before after : Watched) → Type 0
@@ -243,11 +243,11 @@ HasGuard None node own = IsGuardOf node 0 own
 HasGuard (Some guard) node own = own ≡ guard
 
 -- the four slots were scrubbed, by what is kept of them
-pub record ScrubsGuarded (told : Scrubbed) (image : List ℕ) (before after : GuardedValue) : Type 0 where
+pub record ScrubsGuarded (reported : Scrubbed) (image : List ℕ) (before after : GuardedValue) : Type 0 where
   pub old : Guard
   pub new : Guard
   pub has : HasGuard before.guard before.node old
-  pub scrubs : Scrubs told image (beside old before.node) (beside new after.node)
+  pub scrubs : Scrubs reported image (beside old before.node) (beside new after.node)
   pub left : after.guard ≡ Some new
 
 -- the sizes have the sum that was kept of them, if one was
@@ -287,38 +287,38 @@ pub record SetsEach (each : ℕ) (before after : GuardedValue) : Type 0 where
   pub guard_is : after.guard ≡ Some (scrubbing_each old each)
 
 -- a program judges the packet at that slot, which was scrubbed, and that was found
-pub record FindsAt (slot : ℕ) (found : Option Found) (before after : Watched) : Type 0 where
+pub record FindsAt (slot : ℕ) (found : Option ScrubFindings) (before after : Watched) : Type 0 where
   pub health : Health
   pub found_is : found ≡ Some (record { slot = slot; health = health })
   pub scrubs : ScrubsSlot health slot before after
 
 -- nothing was scrubbed
-pub record FindsNothing (found : Option Found) (before after : Watched) : Type 0 where
+pub record FindsNothing (found : Option ScrubFindings) (before after : Watched) : Type 0 where
   pub found_is : found ≡ None
   pub same : after ≡ before
 
 -- If no scrub is due the packet is counted. If one is due and a program judges the packet, the slot of that program is
 -- scrubbed. If none judges it, the scrub stays due.
-abbrev pub ScrubsFirst : (due : Bool) → (slot : Option ℕ) → (found : Option Found) → (before after : Watched) → Type 0
+abbrev pub ScrubsFirst : (due : Bool) → (slot : Option ℕ) → (found : Option ScrubFindings) → (before after : Watched) → Type 0
 ScrubsFirst false slot found before after = FindsNothing found (counting_on before (counted before.guard.counting)) after
 ScrubsFirst true None found before after = FindsNothing found before after
 ScrubsFirst true (Some slot) found before after = FindsAt slot found (counting_on before (renewed before.guard.counting)) after
 
 -- a scrub before a packet at a port, if one is due
-abbrev pub ScrubsBefore : (port : ℕ) → Cargo → Option Found → (before after : Watched) → Type 0
+abbrev pub ScrubsBefore : (port : ℕ) → Cargo → Option ScrubFindings → (before after : Watched) → Type 0
 ScrubsBefore port packet found before after =
-    ScrubsFirst (is_due before.guard.counting) (slot_in (slice_get before.node.passes port) packet) found before after
+    ScrubsFirst (is_due before.guard.counting) (port_slot_in (slice_get before.node.passes port) packet) found before after
 
 -- ---- packets
 
 -- what the node reports of a command that no program judges
-abbrev pub unread : Told
+abbrev pub unread : ServedDetail
 unread = record { served = Unread; generation = 0; verdict = 0 }
 
 -- The command of the packet is for a slot that is withdrawn. The answer is a general error, and nothing changed.
-pub record AnswersUnread (told : Told) (size : ℕ) (packet : Cargo) (before after : Watched) (room left : List ℕ) :
+pub record AnswersUnread (reported : ServedDetail) (size : ℕ) (packet : Cargo) (before after : Watched) (room left : List ℕ) :
     Type 0 where
-  pub told_is : told ≡ unread
+  pub reported_is : reported ≡ unread
   pub left_is : left ≡ put_front room (reply_of (command_of packet) GeneralError [])
   pub size_is : size ≡ length (reply_of (command_of packet) GeneralError [])
   pub after_is : after ≡ before
@@ -328,35 +328,35 @@ abbrev pub with_all : Guard → List SlotSums → Guard
 with_all guard sums = record guard { sums = sums }
 
 -- the packet is served as the node serves it, and the sums follow what was published
-pub record AnswersRead (told : Told) (size port : ℕ) (packet : Cargo) (before after : Watched) (room left : List ℕ) :
+pub record AnswersRead (reported : ServedDetail) (size port : ℕ) (packet : Cargo) (before after : Watched) (room left : List ℕ) :
     Type 0 where
-  pub serves : ServesInto told size port packet before.node after.node room left
+  pub serves : ServesInto reported size port packet before.node after.node room left
   pub follow : Follow before.node.programs after.node.programs before.guard.sums after.guard.sums
   pub rest : after.guard ≡ with_all before.guard after.guard.sums
 
 -- by whether the slot of its command is withdrawn
-abbrev pub AnswersBy : (withheld : Bool) → (told : Told) → (size port : ℕ) → Cargo → (before after : Watched)
+abbrev pub AnswersBy : (withheld : Bool) → (reported : ServedDetail) → (size port : ℕ) → Cargo → (before after : Watched)
     → (room left : List ℕ) → Type 0
-AnswersBy true told size port packet before after room left = AnswersUnread told size packet before after room left
-AnswersBy false told size port packet before after room left = AnswersRead told size port packet before after room left
+AnswersBy true reported size port packet before after room left = AnswersUnread reported size packet before after room left
+AnswersBy false reported size port packet before after room left = AnswersRead reported size port packet before after room left
 
 -- what becomes of a packet at a port of a node whose programs are kept, after a scrub if one is due
-pub record AnswersWatched (answer : Answer) (port : ℕ) (packet : Cargo) (before after : Watched) (room left : List ℕ) :
+pub record AnswersWatched (answer : ServedAnswer) (port : ℕ) (packet : Cargo) (before after : Watched) (room left : List ℕ) :
     Type 0 where
   pub between : Watched
   pub scrubs : ScrubsBefore port packet answer.found before between
-  pub answers : AnswersBy (is_withheld between.guard.sums (slot_in (slice_get between.node.passes port) packet)) answer.told
+  pub answers : AnswersBy (is_withheld between.guard.sums (port_slot_in (slice_get between.node.passes port) packet)) answer.reported
       answer.size port packet between after room left
 
 -- What becomes of it by whether the programs are kept. Without a guard the node serves it, and nothing is scrubbed.
-abbrev pub AnswersOn : (old new : Option Guard) → Answer → (port : ℕ) → Cargo → (before after : SingleNodeValue)
+abbrev pub AnswersOn : (old new : Option Guard) → ServedAnswer → (port : ℕ) → Cargo → (before after : SingleNodeValue)
     → (room left : List ℕ) → Type 0
 AnswersOn None new answer port packet before after room left =
-    (new ≡ None) × (answer.found ≡ None) × ServesInto answer.told answer.size port packet before after room left
+    (new ≡ None) × (answer.found ≡ None) × ServesInto answer.reported answer.size port packet before after room left
 AnswersOn (Some old) new answer port packet before after room left =
     (own : Guard) × (new ≡ Some own) × AnswersWatched answer port packet (beside old before) (beside own after) room left
 
 -- what becomes of a packet at a port of a node whose programs may be scrubbed
-abbrev pub ServesGuarded : Answer → (port : ℕ) → Cargo → (before after : GuardedValue) → (room left : List ℕ) → Type 0
+abbrev pub ServesGuarded : ServedAnswer → (port : ℕ) → Cargo → (before after : GuardedValue) → (room left : List ℕ) → Type 0
 ServesGuarded answer port packet before after room left =
     AnswersOn before.guard after.guard answer port packet before.node after.node room left

@@ -16,13 +16,13 @@ abbrev pub withdrawn_sums : SlotSums → SlotSums
 withdrawn_sums s = record { first = s.first; second = s.second; mark = 0 }
 
 -- in how many bits two numbers differ
-abbrev pub distance : (a b : ℕ) → ℕ
-distance a b = count_ones (bit_xor a b)
+abbrev pub bit_distance : (a b : ℕ) → ℕ
+bit_distance a b = count_ones (bit_xor a b)
 
 -- The program may judge: the mark is nearer to `OPEN` than to 0. If it is as near to both, or nearer to 0, its slot is
 -- withdrawn.
 abbrev pub is_open : SlotSums → Bool
-is_open s = nat_lt (distance s.mark OPEN) (count_ones s.mark)
+is_open s = nat_lt (bit_distance s.mark OPEN) (count_ones s.mark)
 
 -- the sum is one of those that are kept
 abbrev pub has_sum : SlotSums → (sum : ℕ) → Bool

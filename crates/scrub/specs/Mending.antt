@@ -1,7 +1,7 @@
 -- The program of an image that is lent to a scrub.
 use Rattle.std.specs.Prelude.{◌≡◌, ◌≢◌, ◌⊎◌, ℕ, false, true, List, []}
 use Rattle.bpf.specs.Program.{Program, image_bytes}
-use Rattle.bpf.specs.Reading.{Fails, image_reading}
+use Rattle.bpf.specs.Reading.{FailsReading, image_reading}
 use Rattle.bpf.specs.declared.fault.ImageFault.{ImageFault}
 use Rattle.bpf.specs.declared.fault.ImageFault.TheVariants as faults
 use Rattle.bver.specs.Justified.{AcceptedValue, IsJustified}
@@ -28,7 +28,7 @@ pub record IsUnjustifiedIn (sizes : Maps) (image : List ℕ) : Type 0 where
 -- they spell.
 pub data IsNoProgram (sizes : Maps) (image : List ℕ) : Type 0 where
   empty : image ≡ [] → IsNoProgram sizes image
-  unspelled : (fault : ImageFault) → fault ≢ faults.Memory → Fails fault (image_reading image) → IsNoProgram sizes image
+  unspelled : (fault : ImageFault) → fault ≢ faults.Memory → FailsReading fault (image_reading image) → IsNoProgram sizes image
   refused : IsUnjustifiedIn sizes image → IsNoProgram sizes image
 
 -- the reason that a fault of the image that is lent gives
@@ -43,10 +43,10 @@ read_fault faults.Loop = Image
 read_fault (faults.Insn slot fault) = Image
 
 -- why no program was read: memory is refused only if there are bytes
-abbrev pub IsUnread : Maps → (image : List ℕ) → MendFault → Type 0
-IsUnread sizes image Memory = image ≢ []
-IsUnread sizes image Image = IsNoProgram sizes image
-IsUnread sizes image Full = ⊥
+abbrev pub IsProgramUnread : Maps → (image : List ℕ) → MendFault → Type 0
+IsProgramUnread sizes image Memory = image ≢ []
+IsProgramUnread sizes image Image = IsNoProgram sizes image
+IsProgramUnread sizes image Full = ⊥
 
 -- the program that was read has that sum, which is one of those that are kept
 pub record IsLentFor (sizes : Maps) (image : List ℕ) (kept : SlotSums) (a : AcceptedValue) (sum : ℕ) : Type 0 where

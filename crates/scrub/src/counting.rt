@@ -1,7 +1,7 @@
 //! Before which packets a program is scrubbed.
 
 ghost use Rattle.std.specs.Prelude.{◌≡◌, ◌&&◌};
-ghost use Rattle.scrub.specs.Counting.{agrees, complement, counted, counting_of, is_due, is_on, renewed};
+ghost use Rattle.scrub.specs.Counting.{agrees, complement_of_count, counted, counting_of, is_due, is_on, renewed};
 
 /// Before each packet of how many a program is scrubbed, and how many are left until then. Beside each number is its
 /// complement. No invariant says that they agree, since memory may change in one of them. If they do not, a scrub is
@@ -19,8 +19,8 @@ pub struct Counting {
 }
 
 /// The complement of a number: each of its 32 bits is the other one.
-fn complement(number: u32) -> u32
-    ensures { result ≡ complement number }
+fn complement_of_count(number: u32) -> u32
+    ensures { result ≡ complement_of_count number }
 {
     u32::MAX - number
 }
@@ -33,8 +33,8 @@ impl Counting {
         Counting {
             each,
             left,
-            each_kept: complement(each),
-            left_kept: complement(left),
+            each_kept: complement_of_count(each),
+            left_kept: complement_of_count(left),
         }
     }
 
@@ -42,7 +42,7 @@ impl Counting {
     pub(crate) fn agrees(&self) -> bool
         ensures { result ≡ agrees self.now }
     {
-        self.each_kept == complement(self.each) && self.left_kept == complement(self.left)
+        self.each_kept == complement_of_count(self.each) && self.left_kept == complement_of_count(self.left)
     }
 
     /// Whether a scrub is due before the next packet.

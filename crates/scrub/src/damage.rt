@@ -1,7 +1,7 @@
 //! Damage that is found and not mended: entries of journals that are not whole, and sizes that are others than they were.
 
 ghost use Rattle.std.specs.Prelude.{◌≡◌, ◌<◌, ◌≤◌, ◌*◌, slice_get};
-ghost use Rattle.scrub.specs.Damage.{after_cells, after_maps, after_place, after_places, after_range, after_ranges, after_windows, broken_bit, broken_in, broken_low, broken_of, broken_place, first_of, no_broken, sizes_sum, with_bank};
+ghost use Rattle.scrub.specs.Damage.{after_cells, after_maps, sum_after_place, after_places, after_range, after_ranges, after_windows, broken_bit, broken_in, broken_low, broken_of, broken_place, first_place_of, no_broken, sizes_sum, with_broken_bank};
 
 use bank::Entry;
 use machine::MapSizes;
@@ -11,7 +11,7 @@ use sums::after_word;
 
 /// Which entries of a node's journals are not whole (`Entry::is_whole` of `bank`).
 #[derive(Clone, Copy, Debug, PartialEq, Eq)]
-pub struct Broken {
+pub struct BrokenBits {
     /// A bit for each bank that has one: 1 for bank 0, then 2, 4 and so on.
     pub banks: u8,
     /// The place of the first one of the first such bank, 0 for the oldest entry.
@@ -42,18 +42,18 @@ fn broken_in(node: &SingleNode, bank: u8) -> Option<usize>
 }
 
 /// No entry that is not whole.
-fn no_broken() -> Broken
+fn no_broken() -> BrokenBits
     ensures { result ≡ no_broken }
 {
-    Broken {
+    BrokenBits {
         banks: 0,
         first: None,
     }
 }
 
 /// The first place, if there is one, else the next.
-fn first_of(first: Option<usize>, next: Option<usize>) -> Option<usize>
-    ensures { result ≡ first_of first next }
+fn first_place_of(first: Option<usize>, next: Option<usize>) -> Option<usize>
+    ensures { result ≡ first_place_of first next }
 {
     match first {
         Some(place) => Some(place),
@@ -73,38 +73,38 @@ fn broken_bit(place: Option<usize>, bit: u8) -> u8
 }
 
 /// What the result is with one more bank. The conditions are a bit, and that those of the banks before are below it.
-fn with_bank(told: Broken, node: &SingleNode, bank: u8, bit: u8) -> Broken
+fn with_broken_bank(reported: BrokenBits, node: &SingleNode, bank: u8, bit: u8) -> BrokenBits
     requires bit { bit ≤ 128 }
-    requires below { told.banks < bit }
-    ensures told { result ≡ with_bank told (slice_get node.now.banks bank) bit }
+    requires below { reported.banks < bit }
+    ensures reported { result ≡ with_broken_bank reported (slice_get node.now.banks bank) bit }
     ensures below { result.banks < 2 * bit }
 {
     let place = broken_in(node, bank);
-    Broken {
-        banks: told.banks + broken_bit(place, bit),
-        first: first_of(told.first, place),
+    BrokenBits {
+        banks: reported.banks + broken_bit(place, bit),
+        first: first_place_of(reported.first, place),
     }
 }
 
 /// The result for the first four banks.
-fn broken_low(node: &SingleNode) -> Broken
-    ensures told { result ≡ broken_low node.now.banks }
+fn broken_low(node: &SingleNode) -> BrokenBits
+    ensures reported { result ≡ broken_low node.now.banks }
     ensures below { result.banks < 16 }
 {
-    let one = with_bank(no_broken(), node, 0, 1);
-    let two = with_bank(one, node, 1, 2);
-    let three = with_bank(two, node, 2, 4);
-    with_bank(three, node, 3, 8)
+    let one = with_broken_bank(no_broken(), node, 0, 1);
+    let two = with_broken_bank(one, node, 1, 2);
+    let three = with_broken_bank(two, node, 2, 4);
+    with_broken_bank(three, node, 3, 8)
 }
 
 /// Which entries of a node's journals are not whole.
-pub(crate) fn broken_of(node: &SingleNode) -> Broken
+pub(crate) fn broken_of(node: &SingleNode) -> BrokenBits
     ensures { result ≡ broken_of node.now.banks }
 {
-    let five = with_bank(broken_low(node), node, 4, 16);
-    let six = with_bank(five, node, 5, 32);
-    let seven = with_bank(six, node, 6, 64);
-    with_bank(seven, node, 7, 128)
+    let five = with_broken_bank(broken_low(node), node, 4, 16);
+    let six = with_broken_bank(five, node, 5, 32);
+    let seven = with_broken_bank(six, node, 6, 64);
+    with_broken_bank(seven, node, 7, 128)
 }
 
 /// The sum after the range of a bank, if there is that bank.
@@ -133,8 +133,8 @@ fn after_ranges(sum: u64, node: &SingleNode) -> u64
 }
 
 /// The sum after the range of a bank by the windows of a node, if they have that bank.
-fn after_place(sum: u64, windows: &Windows, bank: u8) -> u64
-    ensures { result ≡ after_place sum (slice_get windows.now.banks bank) }
+fn sum_after_place(sum: u64, windows: &Windows, bank: u8) -> u64
+    ensures { result ≡ sum_after_place sum (slice_get windows.now.banks bank) }
 {
     match windows.bank(bank) {
         Some((first, size)) => after_word(after_word(sum, u64::from(first)), u64::from(size)),
@@ -146,14 +146,14 @@ fn after_place(sum: u64, windows: &Windows, bank: u8) -> u64
 fn after_places(sum: u64, windows: &Windows) -> u64
     ensures { result ≡ after_places sum windows.now.banks }
 {
-    let one = after_place(sum, windows, 0);
-    let two = after_place(one, windows, 1);
-    let three = after_place(two, windows, 2);
-    let four = after_place(three, windows, 3);
-    let five = after_place(four, windows, 4);
-    let six = after_place(five, windows, 5);
-    let seven = after_place(six, windows, 6);
-    after_place(seven, windows, 7)
+    let one = sum_after_place(sum, windows, 0);
+    let two = sum_after_place(one, windows, 1);
+    let three = sum_after_place(two, windows, 2);
+    let four = sum_after_place(three, windows, 3);
+    let five = sum_after_place(four, windows, 4);
+    let six = sum_after_place(five, windows, 5);
+    let seven = sum_after_place(six, windows, 6);
+    sum_after_place(seven, windows, 7)
 }
 
 /// The sum after the windows of a node, if it has a port.

@@ -5,10 +5,10 @@ ghost use Rattle.node_programs.specs.Codes.{IsUnpublished};
 ghost use Rattle.node_programs.specs.Published.{generation_at, sizes_of};
 ghost use Rattle.node_programs.specs.declared.publishes.Publish.{Publish};
 ghost use Rattle.rmap.specs.Command.{discard_of};
-ghost use Rattle.single_node.specs.Nodes.{slot_in};
+ghost use Rattle.single_node.specs.Nodes.{port_slot_in};
 ghost use Rattle.scrub.specs.Counting.{agrees, counted, is_due, is_on, renewed};
 ghost use Rattle.scrub.specs.Damage.{sizes_sum};
-ghost use Rattle.scrub.specs.Guarded.{IsGuardOf, IsInstalled, IsLentTo, IsRemade, IsUnmended, Looks, LooksAt, PublishesAs, Repairs, RepairsUnless, ScrubsFirst, ScrubsSlot, Scrubs, beside, health_at, health_by, scrubbing_each, with_all, with_counting, with_sums};
+ghost use Rattle.scrub.specs.Guarded.{IsGuardOf, IsInstalled, IsLentTo, IsRemade, IsUnmended, LooksAtSlots, LooksAt, PublishesAs, Repairs, RepairsUnless, ScrubsFirst, ScrubsSlot, Scrubs, beside, health_at, health_by, scrubbing_each, with_all, with_counting, with_sums};
 ghost use Rattle.scrub.specs.Kept.{AreFresh, AreGenerations, Follow, FollowAt, closed_in, is_withheld};
 
 use crate::counting::Counting;
@@ -52,7 +52,7 @@ pub struct Scrubbed {
 
 /// Whether the program of each slot was found whole.
 #[derive(Clone, Copy, Debug, PartialEq, Eq)]
-pub struct Seen {
+pub struct SlotsFound {
     /// That of slot 0.
     pub reads: bool,
     /// That of slot 1.
@@ -65,7 +65,7 @@ pub struct Seen {
 
 /// What a scrub before a packet found.
 #[derive(Clone, Copy, Debug, PartialEq, Eq)]
-pub struct Found {
+pub struct ScrubFindings {
     /// The slot whose program judges the packet: 0 to 3.
     pub slot: u8,
     /// How its program was found.
@@ -88,14 +88,14 @@ pub struct Guard {
 }
 
 /// How the program of a slot was found. For a slot that does not exist it means nothing.
-fn health_at(told: Scrubbed, slot: u8) -> Health
-    ensures { result ≡ health_at told slot }
+fn health_at(reported: Scrubbed, slot: u8) -> Health
+    ensures { result ≡ health_at reported slot }
 {
     match slot {
-        0 => told.reads,
-        1 => told.writes,
-        2 => told.rmws,
-        _ => told.window,
+        0 => reported.reads,
+        1 => reported.writes,
+        2 => reported.rmws,
+        _ => reported.window,
     }
 }
 
@@ -331,14 +331,14 @@ impl Guard {
     }
 
     /// Looks at the programs of the four slots, one after the other.
-    fn look_at_all(&mut self, node: &SingleNode) -> Seen
-        ensures { Looks result (beside self.old node.now) (beside self.new node.now) }
+    fn look_at_all(&mut self, node: &SingleNode) -> SlotsFound
+        ensures { LooksAtSlots result (beside self.old node.now) (beside self.new node.now) }
     {
         let reads = self.look(node, 0);
         let writes = self.look(node, 1);
         let rmws = self.look(node, 2);
         let window = self.look(node, 3);
-        Seen {
+        SlotsFound {
             reads,
             writes,
             rmws,
@@ -420,8 +420,8 @@ impl Guard {
         if self.look(node, slot) {
             return Health::Whole;
         }
-        let told = self.scrub(node, alloc, &[]);
-        health_at(told, slot)
+        let reported = self.scrub(node, alloc, &[]);
+        health_at(reported, slot)
     }
 
     /// Whether the numbers of scrubs before packets agree with their complements.
@@ -450,7 +450,7 @@ impl Guard {
     pub(crate) fn withholds(&self, node: &SingleNode, port: u8, packet: &Packet) -> bool
         requires { port < length node.now.passes }
         ensures value { result
-            ≡ is_withheld self.now.sums (slot_in (slice_get node.now.passes port) packet.now) }
+            ≡ is_withheld self.now.sums (port_slot_in (slice_get node.now.passes port) packet.now) }
         ensures command { result ≡ true → discard_of packet.now.bytes ≡ None }
     {
         if are_open(&self.sums) {
@@ -471,10 +471,10 @@ impl Guard {
         alloc: Global,
         port: u8,
         packet: &Packet,
-    ) -> Option<Found>
+    ) -> Option<ScrubFindings>
         requires { port < length node.old.passes }
         ensures scrubs { ScrubsFirst (is_due self.old.counting)
-            (slot_in (slice_get node.old.passes port) packet.now) result
+            (port_slot_in (slice_get node.old.passes port) packet.now) result
             (beside self.old node.old) (beside self.new node.new) }
         ensures banks { node.new.banks ≡ node.old.banks }
         ensures ports { node.new.passes ≡ node.old.passes }
@@ -490,7 +490,7 @@ impl Guard {
         let renewed = self.counting.renewed();
         self.count(renewed);
         let health = self.scrub_slot(node, alloc, slot);
-        Some(Found { slot, health })
+        Some(ScrubFindings { slot, health })
     }
 
     /// Keeps these numbers of scrubs before packets.

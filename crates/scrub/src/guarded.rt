@@ -7,16 +7,16 @@ ghost use Rattle.rmap.specs.declared.reply.TheConstants.{MAX_REPLY};
 ghost use Rattle.scrub.specs.Guarded.{AnswersBy, AnswersWatched, BeginsGuard, HasGuard, Installs, IsGuarded, ScrubsGuarded, ServesGuarded, SetsEach, beside, has_counting, has_sizes, is_damaged, unread};
 ghost use Rattle.scrub.specs.Damage.{broken_of};
 ghost use Rattle.scrub.specs.Kept.{is_withheld};
-ghost use Rattle.single_node.specs.Nodes.{slot_in};
+ghost use Rattle.single_node.specs.Nodes.{port_slot_in};
 ghost use Rattle.single_node.specs.Serving.{ServesInto};
 
-use crate::answer::Answer;
-use crate::damage::{Broken, broken_of};
+use crate::answer::ServedAnswer;
+use crate::damage::{BrokenBits, broken_of};
 use crate::guard::{Guard, Scrubbed, generations};
 use bver::Accepted;
 use node_parts::Served;
 use node_programs::PublishFault;
-use single_node::{SingleNode, Told};
+use single_node::{SingleNode, ServedDetail};
 use spw::Packet;
 use std::alloc::Global;
 
@@ -31,10 +31,10 @@ pub struct GuardedNode {
 }
 
 /// What the node reports of a command that no program judges.
-fn unread() -> Told
+fn unread() -> ServedDetail
     ensures { result ≡ unread }
 {
-    Told {
+    ServedDetail {
         served: Served::Unread,
         generation: 0,
         verdict: 0,
@@ -72,11 +72,11 @@ fn answer_by(
     port: u8,
     packet: Packet,
     room: &mut [u8],
-) -> (Told, usize)
+) -> (ServedDetail, usize)
     requires port { port < length node.old.passes }
     requires room { MAX_REPLY ≤ length room.old }
     ensures answers { AnswersBy
-        (is_withheld guard.old.sums (slot_in (slice_get node.old.passes port) packet))
+        (is_withheld guard.old.sums (port_slot_in (slice_get node.old.passes port) packet))
         result.0 result.1 port packet (beside guard.old node.old) (beside guard.new node.new)
         room.old room.new }
     ensures few { result.1 ≤ MAX_REPLY }
@@ -100,7 +100,7 @@ fn answer_watched(
     port: u8,
     packet: Packet,
     room: &mut [u8],
-) -> Answer
+) -> ServedAnswer
     requires port { port < length node.old.passes }
     requires room { MAX_REPLY ≤ length room.old }
     ensures answers { AnswersWatched result port packet (beside guard.old node.old)
@@ -108,8 +108,8 @@ fn answer_watched(
     ensures few { result.size ≤ MAX_REPLY }
 {
     let found = guard.scrub_first(node, alloc, port, &packet);
-    let (told, size) = answer_by(guard, node, alloc, port, packet, room);
-    Answer { told, found, size }
+    let (reported, size) = answer_by(guard, node, alloc, port, packet, room);
+    ServedAnswer { reported, found, size }
 }
 
 /// Serves one packet at a node of whose programs nothing is kept. The conditions are a port of the node, and room for
@@ -120,16 +120,16 @@ fn answer_plain(
     port: u8,
     packet: Packet,
     room: &mut [u8],
-) -> Answer
+) -> ServedAnswer
     requires port { port < length node.old.passes }
     requires room { MAX_REPLY ≤ length room.old }
-    ensures serves { ServesInto result.told result.size port packet node.old node.new room.old room.new }
+    ensures serves { ServesInto result.reported result.size port packet node.old node.new room.old room.new }
     ensures found { result.found ≡ None }
     ensures few { result.size ≤ MAX_REPLY }
 {
-    let (told, size) = node.serve_into(alloc, port, packet, room);
-    Answer {
-        told,
+    let (reported, size) = node.serve_into(alloc, port, packet, room);
+    ServedAnswer {
+        reported,
         found: None,
         size,
     }
@@ -146,7 +146,7 @@ impl GuardedNode {
     }
 
     /// Which entries of the node's journals are not whole.
-    pub fn broken(&self) -> Broken
+    pub fn broken(&self) -> BrokenBits
         ensures { result ≡ broken_of self.now.node.banks }
     {
         broken_of(&self.node)
@@ -191,9 +191,9 @@ impl GuardedNode {
         ensures { ScrubsGuarded result image.now self.old self.new }
     {
         let mut guard = guard_or_new(self.guard, &self.node);
-        let told = guard.scrub(&mut self.node, alloc, image);
+        let reported = guard.scrub(&mut self.node, alloc, image);
         self.guard = Some(guard);
-        told
+        reported
     }
 
     /// From now on scrubs the program that judges a packet before each packet of that many. If the number is 0, it
@@ -235,7 +235,7 @@ impl GuardedNode {
     /// nothing changes. The conditions are a port of the node, and room for any reply ([`MAX_REPLY`]).
     ///
     /// [`MAX_REPLY`]: rmap::MAX_REPLY
-    pub fn serve(&mut self, alloc: Global, port: u8, packet: Packet, room: &mut [u8]) -> Answer
+    pub fn serve(&mut self, alloc: Global, port: u8, packet: Packet, room: &mut [u8]) -> ServedAnswer
         requires port { port < length self.old.node.passes }
         requires room { MAX_REPLY ≤ length room.old }
         ensures serves { ServesGuarded result port packet self.old self.new room.old room.new }

@@ -21,10 +21,10 @@ mod kept;
 mod made;
 mod op_sums;
 
-pub use answer::Answer;
+pub use answer::ServedAnswer;
 pub use counting::Counting;
-pub use damage::Broken;
-pub use guard::{Found, Guard, Health, Scrubbed};
+pub use damage::BrokenBits;
+pub use guard::{ScrubFindings, Guard, Health, Scrubbed};
 pub use guarded::GuardedNode;
 pub use kept::{OPEN, SlotSums};
 pub use op_sums::one_change_is_seen;

@@ -1,7 +1,7 @@
 //! The program of an image that is lent.
 
 ghost use Rattle.std.specs.Prelude.{◌≡◌, IfErr, IfOk};
-ghost use Rattle.scrub.specs.Mending.{IsLentFor, IsReadFrom, IsUnlent, IsUnread, read_fault};
+ghost use Rattle.scrub.specs.Mending.{IsLentFor, IsReadFrom, IsUnlent, IsProgramUnread, read_fault};
 
 use crate::kept::SlotSums;
 use crate::op_sums::program_sum;
@@ -44,7 +44,7 @@ fn read_fault(fault: ImageFault) -> MendFault
 #[tactic(auto, using(crate::proofs::Mending::empty_image, crate::proofs::Mending::unread, crate::proofs::Mending::refused))]
 fn program_of(alloc: Global, image: &[u8], sizes: &MapSizes) -> Result<Accepted, MendFault>
     ensures read { IfOk result (IsReadFrom sizes.now image.now) }
-    ensures fault { IfErr result (IsUnread sizes.now image.now) }
+    ensures fault { IfErr result (IsProgramUnread sizes.now image.now) }
 {
     if image.is_empty() {
         return Err(MendFault::Image);

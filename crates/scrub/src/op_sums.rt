@@ -2,7 +2,7 @@
 
 ghost use Rattle.std.specs.Prelude.{◌≡◌};
 ghost use Rattle.scrub.specs.Numbers.{accessed_number, code_number};
-ghost use Rattle.scrub.specs.Sums.{IsSummed, OneChangeIsSeen, after_op, head_of, packed, sum_of};
+ghost use Rattle.scrub.specs.Sums.{IsSummed, OneChangeIsSeen, after_op, head_sum_of, packed, sum_of};
 
 use bver::{Accepted, Accessed, Code, Op};
 use sums::{after_word, one_word_is_seen};
@@ -36,8 +36,8 @@ fn packed(code: u8, dst: u8, src: u8, accessed: u8, offset: u16, target: u16) ->
 
 /// The first word of an operation: all of it except its constant.
 #[inline(always)]
-fn head_of(op: &Op) -> u64
-    ensures { result ≡ head_of op.now }
+fn head_sum_of(op: &Op) -> u64
+    ensures { result ≡ head_sum_of op.now }
 {
     packed(
         code_number(op.code),
@@ -54,7 +54,7 @@ fn head_of(op: &Op) -> u64
 fn after_op(sum: u64, op: &Op) -> u64
     ensures { result ≡ after_op sum op.now }
 {
-    after_word(after_word(sum, head_of(op)), op.constant)
+    after_word(after_word(sum, head_sum_of(op)), op.constant)
 }
 
 /// The sum of a list of operations.

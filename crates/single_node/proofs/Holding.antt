@@ -56,7 +56,7 @@ no_other slots slot place a b c d = by
     by (suc (suc (suc (suc n)))) low = absurd (omega (arith, low))
 
 -- nor has one the place after all programs
-pub none_behind : (slots : List Placed) (slot count : ℕ) → ((k : ℕ) → k < 4 → (placed_at slots k).place < count) → HasNoOther slots slot count
-none_behind slots slot count low = λ k few other here.
+pub none_after : (slots : List Placed) (slot count : ℕ) → ((k : ℕ) → k < 4 → (placed_at slots k).place < count) → HasNoOther slots slot count
+none_after slots slot count low = λ k few other here.
     let below = low k few in
     omega (arith, below, here)

@@ -21,46 +21,46 @@ use Rattle.node_parts.specs.Passes.{PassValue}
 use Rattle.node_parts.specs.Served.{PartsValue, parts}
 use Rattle.single_node.specs.Judging.{ServesAt}
 use Rattle.single_node.specs.Nodes.{AreUnder, IsInformed, IsSingleNode, SingleNodeValue, single_node}
-use Rattle.single_node.specs.Serving.{ServesTold}
-use Rattle.single_node.specs.declared.served.Told.{Told}
+use Rattle.single_node.specs.Serving.{ServesReported}
+use Rattle.single_node.specs.declared.served.ServedDetail.{ServedDetail}
 use Rattle.node_parts.proofs.Loadings.{prefix_same}
-use Rattle.single_node.proofs.Serving.{answered, by_last, cells, informed_grows, kept_or_longer, stays_informed, told}
+use Rattle.single_node.proofs.Serving.{answered, by_last, cells, informed_grows, kept_or_longer, stays_informed, reported}
 use Rattle.lemmas.proofs.Places.{at_written, at_other}
 
 -- no bank comes or goes
-same_count : (served : Served) (g v : ℕ) (p : Cargo) (words behind : List (List ℕ)) (old new : PartsValue) (h after : PassValue) (reply : List ℕ) → ServesAt served g v p words behind old new h after reply → length new.banks ≡ length old.banks
-same_count (Stopped stop) g v p words behind old new h after reply s = ap (λ (x : PartsValue). length x.banks) s.untouched.node
-same_count Unread g v p words behind old new h after reply s = absurd s
-same_count (Done result) g v p words behind old new h after reply s = ap (λ (x : PartsValue). length x.banks) s.ended.node ∙ length-set old.banks s.ended.number s.ended.behind
-same_count (Window status) g v p words behind old new h after reply s = ap length s.ended.0
+same_count : (served : Served) (g v : ℕ) (p : Cargo) (words following : List (List ℕ)) (old new : PartsValue) (h after : PassValue) (reply : List ℕ) → ServesAt served g v p words following old new h after reply → length new.banks ≡ length old.banks
+same_count (Stopped stop) g v p words following old new h after reply s = ap (λ (x : PartsValue). length x.banks) s.untouched.node
+same_count Unread g v p words following old new h after reply s = absurd s
+same_count (Done result) g v p words following old new h after reply s = ap (λ (x : PartsValue). length x.banks) s.ended.node ∙ length-set old.banks s.ended.number s.ended.following
+same_count (Window status) g v p words following old new h after reply s = ap length s.ended.0
 
 -- a packet at a port leaves a node of one thread
-pub node_after : AnsweredAreServed → LeavesAllPaired → (served : Served) (g v : ℕ) (p : Cargo) (before : SingleNodeValue) (banks : List BankValue) (behind : List (List ℕ)) (programs : List Publish) (place : ℕ) (h after : PassValue) (reply : List ℕ)
-    → IsSingleNode before → slice_get before.passes place ≡ Some h → 0 < length before.programs → ServesAt served g v p before.words behind (parts before.banks before.programs) (parts banks programs) h after reply
-    → IsSingleNode (single_node banks behind programs (set before.passes place after))
-node_after law all served g v p before banks behind programs place h after reply is at some s =
+pub node_after : AnsweredAreServed → LeavesAllPaired → (served : Served) (g v : ℕ) (p : Cargo) (before : SingleNodeValue) (banks : List BankValue) (following : List (List ℕ)) (programs : List Publish) (place : ℕ) (h after : PassValue) (reply : List ℕ)
+    → IsSingleNode before → slice_get before.passes place ≡ Some h → 0 < length before.programs → ServesAt served g v p before.words following (parts before.banks before.programs) (parts banks programs) h after reply
+    → IsSingleNode (single_node banks following programs (set before.passes place after))
+node_after law all served g v p before banks following programs place h after reply is at some s =
     let words = before.words in
     let old = parts before.banks before.programs in
     let new = parts banks programs in
     let paired = is.paired.each place h at in
     let informed = is.informed place h at in
-    let grows = (kept_or_longer served g v p words behind old new h after reply s).longer in
-    let by = law served p old new h after reply (answered served g v p words behind old new h after reply s) paired in
+    let grows = (kept_or_longer served g v p words following old new h after reply s).longer in
+    let by = law served p old new h after reply (answered served g v p words following old new h after reply s) paired in
     record {
       paired = all served p old new h after reply by before.passes place is.paired at;
       informed = λ i x found. elim (cases_eq i place) [
-        | inl here ↦ subst (λ (y : PassValue). IsInformed programs y) (sym (at_written before.passes place i h after x at here found)) (stays_informed served g v p words behind old new h after reply some s informed)
+        | inl here ↦ subst (λ (y : PassValue). IsInformed programs y) (sym (at_written before.passes place i h after x at here found)) (stays_informed served g v p words following old new h after reply some s informed)
         | inr apart ↦ informed_grows before.programs programs x some grows (is.informed i x (at_other before.passes place i after x apart found))
       ];
       few_ports = rw (length-set before.passes place after) is.few_ports;
-      few_banks = rw (same_count served g v p words behind old new h after reply s) is.few_banks;
+      few_banks = rw (same_count served g v p words following old new h after reply s) is.few_banks;
     }
 
 -- what a packet does at a port is what it does at the node
-pub serves_of : (t : Told) (p : Cargo) (before : SingleNodeValue) (banks : List BankValue) (behind : List (List ℕ)) (programs : List Publish) (port place : ℕ) (h after : PassValue) (reply : List ℕ)
-    → place ≡ port → slice_get before.passes place ≡ Some h → ServesAt t.served t.generation t.verdict p before.words behind (parts before.banks before.programs) (parts banks programs) h after reply
-    → ServesTold t port p before (single_node banks behind programs (set before.passes place after)) reply
-serves_of t p before banks behind programs port place h after reply same at s =
+pub serves_of : (t : ServedDetail) (p : Cargo) (before : SingleNodeValue) (banks : List BankValue) (following : List (List ℕ)) (programs : List Publish) (port place : ℕ) (h after : PassValue) (reply : List ℕ)
+    → place ≡ port → slice_get before.passes place ≡ Some h → ServesAt t.served t.generation t.verdict p before.words following (parts before.banks before.programs) (parts banks programs) h after reply
+    → ServesReported t port p before (single_node banks following programs (set before.passes place after)) reply
+serves_of t p before banks following programs port place h after reply same at s =
     let words = before.words in
     let old = parts before.banks before.programs in
     let new = parts banks programs in
@@ -72,12 +72,12 @@ serves_of t p before banks behind programs port place h after reply same at s =
         left = after;
         own = subst (λ (k : ℕ). slice_get before.passes k ≡ Some h) same at;
         others = ap (λ (k : ℕ). set before.passes k after) same;
-        answered = answered t.served g v p words behind old new h after reply s;
-        cells = cells t.served g v p words behind old new h after reply s;
-        by_last = by_last t.served g v p words behind old new h after reply s;
-        programs = kept_or_longer t.served g v p words behind old new h after reply s;
+        answered = answered t.served g v p words following old new h after reply s;
+        cells = cells t.served g v p words following old new h after reply s;
+        by_last = by_last t.served g v p words following old new h after reply s;
+        programs = kept_or_longer t.served g v p words following old new h after reply s;
       };
-      tells = told t.served g v p words behind old new h after reply s;
+      reports = reported t.served g v p words following old new h after reply s;
     }
 
 -- what is at a place of a list that is made by number

@@ -6,7 +6,7 @@ use Rattle.machine.specs.Sizes.{Maps}
 use Rattle.machine.specs.declared.calls.Call.{Call}
 use Rattle.rmap.specs.Windows.{WindowsValue}
 use Rattle.node_parts.specs.Passes.{context_after, run_context, seat_at}
-use Rattle.plain_cells.specs.Cells.{AreAsked, CellsValue}
+use Rattle.plain_cells.specs.Cells.{AreAsked, PlainCellsValue}
 use Rattle.plain_cells.specs.Words.{AreCallsOn, CallsGoOn, zero_words}
 
 drop_front : {A : Type 0} (xs ys : List A) → drop (length xs) (xs ++ ys) ≡ ys
@@ -19,7 +19,7 @@ more_asked port windows sizes own before after joined calls is more =
     ap (λ (asked : List Call). run_context port windows (seat_at sizes gnil asked)) (is ∙ ap (λ (xs : List Call). own ++ drop (length before) xs) more ∙ ap (λ (xs : List Call). own ++ xs) (drop_front before calls))
 
 -- the calls of the run were answered by the words of the cells
-pub are_asked : CallsGoOn → (before after : CellsValue) (calls : List Call) → after.sizes ≡ before.sizes → after.asked ≡ before.asked ++ calls
+pub are_asked : CallsGoOn → (before after : PlainCellsValue) (calls : List Call) → after.sizes ≡ before.sizes → after.asked ≡ before.asked ++ calls
     → AreCallsOn before.sizes (zero_words before.sizes) before.asked before.words → AreCallsOn after.sizes (zero_words after.sizes) after.asked after.words → AreAsked calls before after
 are_asked law before after calls sizes more old new = record {
   sizes = sizes;

@@ -19,41 +19,41 @@ use Rattle.node_parts.specs.Pairs.{IsPaired}
 use Rattle.node_parts.specs.Passes.{PassValue}
 use Rattle.node_parts.specs.Served.{EndsAtWindow, IsAnswered, IsStagedAt, PartsValue}
 use Rattle.node_parts.specs.Steps.{IsJudgement}
-use Rattle.single_node.specs.Judging.{Ends, IsLastJudgement, ServesAt}
+use Rattle.single_node.specs.Judging.{EndsJudged, IsLastJudgement, ServesAt}
 use Rattle.single_node.specs.Nodes.{IsInformed}
-use Rattle.single_node.specs.Serving.{AreKeptOrLonger, AsksCells, IsByLast, IsTold}
+use Rattle.single_node.specs.Serving.{AreKeptOrLonger, AsksCells, IsByLast, IsServedDetail}
 use Rattle.node_programs.proofs.Shelves.{sizes_stay}
 use Rattle.node_parts.proofs.Loadings.{prefix_longer, prefix_same}
 
 -- ---- what a packet is answered
 
 -- the record of a command that was judged and ended
-pub judged_and_ended : (served : Served) (g v : ℕ) (p : Cargo) (words behind : List (List ℕ)) (old new : PartsValue) (h between after : PassValue) (judged : JudgedValue) (reply : List ℕ)
-    → IsLastJudgement old.programs words behind h between p judged → Ends served old new between after judged reply → g ≡ judged.generation → v ≡ judged.verdict
-    → ServesAt served g v p words behind old new h after reply
-judged_and_ended (Stopped stop) g v p words behind old new h between after judged reply last ended gen verd = absurd ended
-judged_and_ended Unread g v p words behind old new h between after judged reply last ended gen verd = absurd ended
-judged_and_ended (Done result) g v p words behind old new h between after judged reply last ended gen verd =
+pub judged_and_ended : (served : Served) (g v : ℕ) (p : Cargo) (words following : List (List ℕ)) (old new : PartsValue) (h between after : PassValue) (judged : JudgedValue) (reply : List ℕ)
+    → IsLastJudgement old.programs words following h between p judged → EndsJudged served old new between after judged reply → g ≡ judged.generation → v ≡ judged.verdict
+    → ServesAt served g v p words following old new h after reply
+judged_and_ended (Stopped stop) g v p words following old new h between after judged reply last ended gen verd = absurd ended
+judged_and_ended Unread g v p words following old new h between after judged reply last ended gen verd = absurd ended
+judged_and_ended (Done result) g v p words following old new h between after judged reply last ended gen verd =
     record { judged = judged; between = between; last = last; ended = ended; generation_is = gen; verdict_is = verd }
-judged_and_ended (Window status) g v p words behind old new h between after judged reply last ended gen verd =
+judged_and_ended (Window status) g v p words following old new h between after judged reply last ended gen verd =
     record { judged = judged; between = between; last = last; ended = ended; generation_is = gen; verdict_is = verd }
 
-pub answered : (served : Served) (g v : ℕ) (p : Cargo) (words behind : List (List ℕ)) (old new : PartsValue) (h after : PassValue) (reply : List ℕ) → ServesAt served g v p words behind old new h after reply → IsAnswered served p old new h after reply
-answered (Stopped stop) g v p words behind old new h after reply s = (s.stopped, s.untouched)
-answered Unread g v p words behind old new h after reply s = absurd s
-answered (Done result) g v p words behind old new h after reply s = record {
+pub answered : (served : Served) (g v : ℕ) (p : Cargo) (words following : List (List ℕ)) (old new : PartsValue) (h after : PassValue) (reply : List ℕ) → ServesAt served g v p words following old new h after reply → IsAnswered served p old new h after reply
+answered (Stopped stop) g v p words following old new h after reply s = (s.stopped, s.untouched)
+answered Unread g v p words following old new h after reply s = absurd s
+answered (Done result) g v p words following old new h after reply s = record {
   judged = s.judged;
   between = s.between;
   number = s.ended.number;
   before = s.ended.before;
-  behind = s.ended.behind;
+  following = s.ended.following;
   judgement = s.last.judgement;
   place = s.ended.place;
   bank = s.ended.bank;
   node = s.ended.node;
   ended = s.ended.applied;
 }
-answered (Window status) g v p words behind old new h after reply s = record {
+answered (Window status) g v p words following old new h after reply s = record {
   judged = s.judged;
   between = s.between;
   judgement = s.last.judgement;
@@ -61,29 +61,29 @@ answered (Window status) g v p words behind old new h after reply s = record {
   ended = s.ended.1;
 }
 
-pub by_last : (served : Served) (g v : ℕ) (p : Cargo) (words behind : List (List ℕ)) (old new : PartsValue) (h after : PassValue) (reply : List ℕ) → (s : ServesAt served g v p words behind old new h after reply)
-    → IsByLast served p old new h after reply (answered served g v p words behind old new h after reply s)
+pub by_last : (served : Served) (g v : ℕ) (p : Cargo) (words following : List (List ℕ)) (old new : PartsValue) (h after : PassValue) (reply : List ℕ) → (s : ServesAt served g v p words following old new h after reply)
+    → IsByLast served p old new h after reply (answered served g v p words following old new h after reply s)
 unfolding answered
-by_last (Stopped stop) g v p words behind old new h after reply s = tt
-by_last Unread g v p words behind old new h after reply s = absurd s
-by_last (Done result) g v p words behind old new h after reply s = s.last.by_last
-by_last (Window status) g v p words behind old new h after reply s = s.last.by_last
+by_last (Stopped stop) g v p words following old new h after reply s = tt
+by_last Unread g v p words following old new h after reply s = absurd s
+by_last (Done result) g v p words following old new h after reply s = s.last.by_last
+by_last (Window status) g v p words following old new h after reply s = s.last.by_last
 
-pub told : (served : Served) (g v : ℕ) (p : Cargo) (words behind : List (List ℕ)) (old new : PartsValue) (h after : PassValue) (reply : List ℕ) → (s : ServesAt served g v p words behind old new h after reply)
-    → IsTold g v served p old new h after reply (answered served g v p words behind old new h after reply s)
+pub reported : (served : Served) (g v : ℕ) (p : Cargo) (words following : List (List ℕ)) (old new : PartsValue) (h after : PassValue) (reply : List ℕ) → (s : ServesAt served g v p words following old new h after reply)
+    → IsServedDetail g v served p old new h after reply (answered served g v p words following old new h after reply s)
 unfolding answered
-told (Stopped stop) g v p words behind old new h after reply s = (s.generation_is, s.verdict_is)
-told Unread g v p words behind old new h after reply s = absurd s
-told (Done result) g v p words behind old new h after reply s = (s.generation_is, s.verdict_is)
-told (Window status) g v p words behind old new h after reply s = (s.generation_is, s.verdict_is)
+reported (Stopped stop) g v p words following old new h after reply s = (s.generation_is, s.verdict_is)
+reported Unread g v p words following old new h after reply s = absurd s
+reported (Done result) g v p words following old new h after reply s = (s.generation_is, s.verdict_is)
+reported (Window status) g v p words following old new h after reply s = (s.generation_is, s.verdict_is)
 
-pub cells : (served : Served) (g v : ℕ) (p : Cargo) (words behind : List (List ℕ)) (old new : PartsValue) (h after : PassValue) (reply : List ℕ) → (s : ServesAt served g v p words behind old new h after reply)
-    → AsksCells (sizes_of old.programs) served p old new h after reply (answered served g v p words behind old new h after reply s) words behind
+pub cells : (served : Served) (g v : ℕ) (p : Cargo) (words following : List (List ℕ)) (old new : PartsValue) (h after : PassValue) (reply : List ℕ) → (s : ServesAt served g v p words following old new h after reply)
+    → AsksCells (sizes_of old.programs) served p old new h after reply (answered served g v p words following old new h after reply s) words following
 unfolding answered
-cells (Stopped stop) g v p words behind old new h after reply s = s.not_asked
-cells Unread g v p words behind old new h after reply s = absurd s
-cells (Done result) g v p words behind old new h after reply s = s.last.cells
-cells (Window status) g v p words behind old new h after reply s = s.last.cells
+cells (Stopped stop) g v p words following old new h after reply s = s.not_asked
+cells Unread g v p words following old new h after reply s = absurd s
+cells (Done result) g v p words following old new h after reply s = s.last.cells
+cells (Window status) g v p words following old new h after reply s = s.last.cells
 
 -- ---- the list of what was published
 
@@ -117,13 +117,13 @@ kept_at Staging holder after old new j status reply end other = end.1
 kept_at LoadResult holder after old new j status reply end other = end.1
 kept_at Control holder after old new j status reply end other = kept_as _ holder after old new j status end.ended other
 
-pub kept_or_longer : (served : Served) (g v : ℕ) (p : Cargo) (words behind : List (List ℕ)) (old new : PartsValue) (h after : PassValue) (reply : List ℕ) → ServesAt served g v p words behind old new h after reply → AreKeptOrLonger served old.programs new.programs
-kept_or_longer (Stopped stop) g v p words behind old new h after reply s =
+pub kept_or_longer : (served : Served) (g v : ℕ) (p : Cargo) (words following : List (List ℕ)) (old new : PartsValue) (h after : PassValue) (reply : List ℕ) → ServesAt served g v p words following old new h after reply → AreKeptOrLonger served old.programs new.programs
+kept_or_longer (Stopped stop) g v p words following old new h after reply s =
     let same = ap (λ (x : PartsValue). x.programs) s.untouched.node in record { kept = λ other. same; longer = inl same }
-kept_or_longer Unread g v p words behind old new h after reply s = absurd s
-kept_or_longer (Done result) g v p words behind old new h after reply s =
+kept_or_longer Unread g v p words following old new h after reply s = absurd s
+kept_or_longer (Done result) g v p words following old new h after reply s =
     let same = ap (λ (x : PartsValue). x.programs) s.ended.node in record { kept = λ other. same; longer = inl same }
-kept_or_longer (Window status) g v p words behind old new h after reply s = record {
+kept_or_longer (Window status) g v p words following old new h after reply s = record {
   kept = λ other. kept_at s.judged.place s.between after old.programs new.programs s.judged status reply s.ended.1 (λ e. other (ap Window e));
   longer = grows_at s.judged.place s.between after old.programs new.programs s.judged status reply s.ended.1;
 }
@@ -152,8 +152,8 @@ same_informed : (l : List Publish) (h after : PassValue) → after.programs ≡ 
 same_informed l h after programs sizes is = record { begins = subst (λ (x : List Publish). IsPrefix x l) (sym programs) is.begins; sizes = sizes ∙ is.sizes }
 
 -- a run leaves the port informed
-pub run_informed : (l : List Publish) (words behind : List (List ℕ)) (h between : PassValue) (p : Cargo) (j : JudgedValue) → IsLastJudgement l words behind h between p j → IsInformed l h → IsInformed l between
-run_informed l words behind h between p j last is = record {
+pub run_informed : (l : List Publish) (words following : List (List ℕ)) (h between : PassValue) (p : Cargo) (j : JudgedValue) → IsLastJudgement l words following h between p j → IsInformed l h → IsInformed l between
+run_informed l words following h between p j last is = record {
   begins = prefix_same between.programs l (sym last.knows);
   sizes = ap (λ (x : PassValue). x.seat.sizes) last.judgement.asked ∙ is.sizes;
 }
@@ -188,16 +188,16 @@ share_informed l h LoadResult share is = is
 share_informed l h Control share is = is
 
 -- whatever becomes of a packet, its port stays informed
-pub stays_informed : (served : Served) (g v : ℕ) (p : Cargo) (words behind : List (List ℕ)) (old new : PartsValue) (h after : PassValue) (reply : List ℕ) → 0 < length old.programs → ServesAt served g v p words behind old new h after reply → IsInformed old.programs h → IsInformed new.programs after
-stays_informed (Stopped stop) g v p words behind old new h after reply some s is =
+pub stays_informed : (served : Served) (g v : ℕ) (p : Cargo) (words following : List (List ℕ)) (old new : PartsValue) (h after : PassValue) (reply : List ℕ) → 0 < length old.programs → ServesAt served g v p words following old new h after reply → IsInformed old.programs h → IsInformed new.programs after
+stays_informed (Stopped stop) g v p words following old new h after reply some s is =
     subst (λ (x : PartsValue). IsInformed x.programs after) (sym s.untouched.node) (subst (λ (x : PassValue). IsInformed old.programs x) (sym s.untouched.holder_after) is)
-stays_informed Unread g v p words behind old new h after reply some s is = absurd s
-stays_informed (Done result) g v p words behind old new h after reply some s is =
-    let between = run_informed old.programs words behind h s.between p s.judged s.last is in
+stays_informed Unread g v p words following old new h after reply some s is = absurd s
+stays_informed (Done result) g v p words following old new h after reply some s is =
+    let between = run_informed old.programs words following h s.between p s.judged s.last is in
     subst (λ (x : PartsValue). IsInformed x.programs after) (sym s.ended.node)
     (subst (λ (x : PassValue). IsInformed old.programs x) (sym s.ended.applied.shares) (share_informed old.programs s.between s.judged.place _ between))
-stays_informed (Window status) g v p words behind old new h after reply some s is =
-    window_informed s.judged.place s.between after old.programs new.programs s.judged status reply some s.ended.1 (run_informed old.programs words behind h s.between p s.judged s.last is)
+stays_informed (Window status) g v p words following old new h after reply some s is =
+    window_informed s.judged.place s.between after old.programs new.programs s.judged status reply some s.ended.1 (run_informed old.programs words following h s.between p s.judged s.last is)
 
 -- ---- banks and ports stay paired
 

@@ -41,12 +41,12 @@ window_windows LoadResult h after old new j status reply end = ap (λ (x : PassV
 window_windows Control h after old new j status reply end = load_windows (judged_line (command_of j.packet) j.verdict) h after old new j status end.ended
 
 -- a packet leaves the windows of its port
-pub served_windows : (served : Served) (g v : ℕ) (p : Cargo) (words behind : List (List ℕ)) (old new : PartsValue) (h after : PassValue) (reply : List ℕ) → ServesAt served g v p words behind old new h after reply → after.windows ≡ h.windows
-served_windows (Stopped stop) g v p words behind old new h after reply s = ap (λ (x : PassValue). x.windows) s.untouched.holder_after
-served_windows Unread g v p words behind old new h after reply s = absurd s
-served_windows (Done result) g v p words behind old new h after reply s =
+pub served_windows : (served : Served) (g v : ℕ) (p : Cargo) (words following : List (List ℕ)) (old new : PartsValue) (h after : PassValue) (reply : List ℕ) → ServesAt served g v p words following old new h after reply → after.windows ≡ h.windows
+served_windows (Stopped stop) g v p words following old new h after reply s = ap (λ (x : PassValue). x.windows) s.untouched.holder_after
+served_windows Unread g v p words following old new h after reply s = absurd s
+served_windows (Done result) g v p words following old new h after reply s =
     ap (λ (x : PassValue). x.windows) s.ended.applied.shares ∙ with_share_windows s.between s.judged.place _ ∙ ap (λ (x : PassValue). x.windows) s.last.judgement.asked
-served_windows (Window status) g v p words behind old new h after reply s =
+served_windows (Window status) g v p words following old new h after reply s =
     window_windows s.judged.place s.between after old.programs new.programs s.judged status reply s.ended.1 ∙ ap (λ (x : PassValue). x.windows) s.last.judgement.asked
 
 -- and so those of all ports

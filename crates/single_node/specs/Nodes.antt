@@ -39,8 +39,8 @@ single_node banks words programs passes =
 
 -- A fresh node of that configuration: banks of zero bytes, cells of 0, and ports that have sent nothing. Only the
 -- factory program was published, and it judges in each slot.
-abbrev pub IsFresh : NodeConfig → AcceptedValue → SingleNodeValue → Type 0
-IsFresh config factory node =
+abbrev pub IsFreshNode : NodeConfig → AcceptedValue → SingleNodeValue → Type 0
+IsFreshNode config factory node =
     node
     ≡ single_node (fresh_banks config) (zero_words factory.sizes) (first_programs factory)
     (first_passes config factory gnil)
@@ -78,9 +78,9 @@ abbrev pub slot_asked : WindowsValue → Cargo → Option ℕ
 slot_asked windows p = slot_unless (discard_of p.bytes) windows (command_of p)
 
 -- the same at a port, if there is that port
-abbrev pub slot_in : Option PassValue → Cargo → Option ℕ
-slot_in None p = None
-slot_in (Some h) p = slot_asked h.windows p
+abbrev pub port_slot_in : Option PassValue → Cargo → Option ℕ
+port_slot_in None p = None
+port_slot_in (Some h) p = slot_asked h.windows p
 
 -- that many bytes from an address on lie in the bank, if there is one
 abbrev pub covers_in : Option BankValue → (address count : ℕ) → Bool

@@ -19,7 +19,7 @@ use Rattle.node_parts.specs.Slots.{slot_of}
 use Rattle.node_parts.specs.Steps.{IsJudgement}
 use Rattle.plain_cells.specs.Words.{AreCallsOn}
 use Rattle.single_node.specs.Nodes.{SingleNodeValue}
-use Rattle.single_node.specs.declared.served.Told.{Told}
+use Rattle.single_node.specs.declared.served.ServedDetail.{ServedDetail}
 
 -- The port saw all that was published. The program that judged is the last of it for the slot of the command, and its
 -- place in the list is its generation.
@@ -42,13 +42,13 @@ IsByLast (Window status) p old new h after reply answered =
 -- The words answered the calls of the run that judged, in order, and are then what those left. If its header stops a
 -- packet, no program ran, and they stay.
 abbrev pub AsksCells : (sizes : Maps) (served : Served) (p : Cargo) (old new : PartsValue) (h after : PassValue) (reply : List ℕ)
-    → IsAnswered served p old new h after reply → (words behind : List (List ℕ)) → Type 0
-AsksCells sizes (Stopped stop) p old new h after reply answered words behind = behind ≡ words
-AsksCells sizes Unread p old new h after reply answered words behind = ⊥
-AsksCells sizes (Done result) p old new h after reply answered words behind =
-    AreCallsOn sizes words answered.judgement.calls behind
-AsksCells sizes (Window status) p old new h after reply answered words behind =
-    AreCallsOn sizes words answered.judgement.calls behind
+    → IsAnswered served p old new h after reply → (words following : List (List ℕ)) → Type 0
+AsksCells sizes (Stopped stop) p old new h after reply answered words following = following ≡ words
+AsksCells sizes Unread p old new h after reply answered words following = ⊥
+AsksCells sizes (Done result) p old new h after reply answered words following =
+    AreCallsOn sizes words answered.judgement.calls following
+AsksCells sizes (Window status) p old new h after reply answered words following =
+    AreCallsOn sizes words answered.judgement.calls following
 
 -- The list of what was published stays, or has one publish more. Only a command to the boot window that succeeded can
 -- add one.
@@ -58,7 +58,7 @@ pub record AreKeptOrLonger (served : Served) (old new : List Publish) : Type 0 w
 
 -- This became of the packet that came in at the port. If a program judged it, that is the last one published for its
 -- slot, and the cells answered its run. That reply is due, and no other port changed.
-pub record Serves (served : Served) (port : ℕ) (packet : Cargo) (before after : SingleNodeValue) (reply : List ℕ) : Type
+pub record ServesPacketAt (served : Served) (port : ℕ) (packet : Cargo) (before after : SingleNodeValue) (reply : List ℕ) : Type
     0 where
   pub holder : PassValue
   pub left : PassValue
@@ -73,26 +73,26 @@ pub record Serves (served : Served) (port : ℕ) (packet : Cargo) (before after 
   pub programs : AreKeptOrLonger served before.programs after.programs
 
 -- Generation and verdict are those of the command that was judged. If its header stops a packet, both are 0.
-abbrev pub IsTold : (generation verdict : ℕ) (served : Served) (p : Cargo) (old new : PartsValue) (h after : PassValue)
+abbrev pub IsServedDetail : (generation verdict : ℕ) (served : Served) (p : Cargo) (old new : PartsValue) (h after : PassValue)
     (reply : List ℕ) → IsAnswered served p old new h after reply → Type 0
-IsTold generation verdict (Stopped stop) p old new h after reply answered = (generation ≡ 0) × (verdict ≡ 0)
-IsTold generation verdict Unread p old new h after reply answered = ⊥
-IsTold generation verdict (Done result) p old new h after reply answered =
+IsServedDetail generation verdict (Stopped stop) p old new h after reply answered = (generation ≡ 0) × (verdict ≡ 0)
+IsServedDetail generation verdict Unread p old new h after reply answered = ⊥
+IsServedDetail generation verdict (Done result) p old new h after reply answered =
     (generation ≡ answered.judged.generation) × (verdict ≡ answered.judged.verdict)
-IsTold generation verdict (Window status) p old new h after reply answered =
+IsServedDetail generation verdict (Window status) p old new h after reply answered =
     (generation ≡ answered.judged.generation) × (verdict ≡ answered.judged.verdict)
 
--- the same as `Serves`, with the generation of the program that judged, and its verdict
-pub record ServesTold (told : Told) (port : ℕ) (packet : Cargo) (before after : SingleNodeValue) (reply : List ℕ) : Type
+-- the same as `ServesPacketAt`, with the generation of the program that judged, and its verdict
+pub record ServesReported (reported : ServedDetail) (port : ℕ) (packet : Cargo) (before after : SingleNodeValue) (reply : List ℕ) : Type
     0 where
-  pub serves : Serves told.served port packet before after reply
-  pub tells : IsTold told.generation told.verdict told.served packet (parts before.banks before.programs)
+  pub serves : ServesPacketAt reported.served port packet before after reply
+  pub reports : IsServedDetail reported.generation reported.verdict reported.served packet (parts before.banks before.programs)
       (parts after.banks after.programs) serves.holder serves.left reply serves.answered
 
--- the same as `ServesTold`, with the reply, of that many bytes, at the front of the room, and the rest of it as before
-pub record ServesInto (told : Told) (size port : ℕ) (packet : Cargo) (before after : SingleNodeValue) (room left : List ℕ)
+-- the same as `ServesReported`, with the reply, of that many bytes, at the front of the room, and the rest of it as before
+pub record ServesInto (reported : ServedDetail) (size port : ℕ) (packet : Cargo) (before after : SingleNodeValue) (room left : List ℕ)
     : Type 0 where
   pub reply : List ℕ
-  pub serves : ServesTold told port packet before after reply
+  pub serves : ServesReported reported port packet before after reply
   pub left_is : left ≡ put_front room reply
   pub size_is : size ≡ length reply

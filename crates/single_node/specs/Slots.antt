@@ -34,7 +34,7 @@ shown_by programs slots = map (shown_at programs) slots
 
 -- Each slot shows the program that judges at it by the list of what was published. That many were published after the
 -- factory program, and all were accepted for those maps.
-pub record AreSlots (programs : List Publish) (shown : List (AcceptedValue × ℕ)) (count : ℕ) (sizes : Maps) : Type 0
+pub record AreSlotsShown (programs : List Publish) (shown : List (AcceptedValue × ℕ)) (count : ℕ) (sizes : Maps) : Type 0
   where
     pub slots : map (λ s. Some s) shown ≡ judging_program programs 0 ∷ judging_program programs 1
         ∷ judging_program programs 2 ∷ judging_program programs 3 ∷ []
@@ -47,4 +47,4 @@ pub record ArePlaced (published : List Publish) (programs : List Publishing) (sl
     (sizes : Maps) : Type 0 where
   pub shown : List (AcceptedValue × ℕ)
   pub placed : shown_by programs slots ≡ map (λ s. Some s) shown
-  pub are : AreSlots published shown count sizes
+  pub are : AreSlotsShown published shown count sizes

@@ -17,4 +17,4 @@ mod served;
 mod windows;
 
 pub use node::SingleNode;
-pub use served::Told;
+pub use served::ServedDetail;

@@ -9,18 +9,18 @@ ghost use Rattle.node_programs.specs.Codes.{IsUnpublished};
 ghost use Rattle.node_parts.specs.Nodes.{AreSharesOf, IsNodeFault, first_passes, first_programs, limit_fault, windows_of};
 ghost use Rattle.node_parts.specs.Passes.{PassValue};
 ghost use Rattle.plain_cells.specs.Words.{word_in};
-ghost use Rattle.single_node.specs.Nodes.{IsFresh, IsPublishedAgain, IsSingleNode, Rotates, RotatesTo, SetsBytes, SetsMemory, covers_in, room_in, slot_in, staging_in, with_program};
+ghost use Rattle.single_node.specs.Nodes.{IsFreshNode, IsPublishedAgain, IsSingleNode, Rotates, RotatesTo, SetsBytes, SetsMemory, covers_in, room_in, port_slot_in, staging_in, with_program};
 ghost use Rattle.rmap.specs.Command.{command_of, discard_of};
 ghost use Rattle.rmap.specs.Reply.{reply_of};
 ghost use Rattle.rmap.specs.declared.status.Status.TheVariants.{GeneralError};
 ghost use Rattle.rmap.specs.declared.reply.TheConstants.{MAX_REPLY};
-ghost use Rattle.single_node.specs.Serving.{Serves, ServesInto, ServesTold};
+ghost use Rattle.single_node.specs.Serving.{ServesPacketAt, ServesInto, ServesReported};
 ghost use Rattle.spw.specs.Rooms.{put_front};
 
 use crate::context::PortContext;
 use crate::port::SinglePort;
 use crate::programs::SlotPrograms;
-use crate::served::{Told, serve_at};
+use crate::served::{ServedDetail, serve_at};
 use bank::{Bank, Journal};
 use bver::Accepted;
 use machine::MapSizes;
@@ -100,7 +100,7 @@ impl SingleNode {
         factory: Accepted,
     ) -> Result<SingleNode, NodeFault>
         requires { factory.sizes ≡ config.now.sizes }
-        ensures fresh { IfOk result (IsFresh config.now factory) }
+        ensures fresh { IfOk result (IsFreshNode config.now factory) }
         ensures node { IfOk result IsSingleNode }
         ensures limits { IfOk result (λ _. limit_fault config.now ≡ None) }
         ensures fault { IfErr result (IsNodeFault (limit_fault config.now)) }
@@ -128,24 +128,24 @@ impl SingleNode {
     /// loads, and never answers [`Served::Unread`]. The condition is a port of the node ([`SingleNode::ports`]).
     pub fn serve(&mut self, alloc: Global, port: u8, packet: Packet, reply: &mut ReplyBuf) -> Served
         requires { port < length self.old.passes }
-        ensures serves { Serves result port packet self.old self.new reply.new }
+        ensures serves { ServesPacketAt result port packet self.old self.new reply.new }
         ensures node { IsSingleNode self.new }
     {
-        let told = self.serve_told(alloc, port, packet, reply);
-        told.served
+        let reported = self.serve_with_program(alloc, port, packet, reply);
+        reported.served
     }
 
     /// Serves one packet as [`SingleNode::serve`] does, and reports the generation of the program that judged it, and
     /// its verdict.
-    pub fn serve_told(
+    pub fn serve_with_program(
         &mut self,
         alloc: Global,
         port: u8,
         packet: Packet,
         reply: &mut ReplyBuf,
-    ) -> Told
+    ) -> ServedDetail
         requires { port < length self.old.passes }
-        ensures serves { ServesTold result port packet self.old self.new reply.new }
+        ensures serves { ServesReported result port packet self.old self.new reply.new }
         ensures node { IsSingleNode self.new }
     {
         packets_keep_pairs();
@@ -158,7 +158,7 @@ impl SingleNode {
         serve_at(alloc, windows, banks, cells, programs, port, packet, reply)
     }
 
-    /// Serves one packet as [`SingleNode::serve_told`] does, and puts its reply at the front of the room. The rest of
+    /// Serves one packet as [`SingleNode::serve_with_program`] does, and puts its reply at the front of the room. The rest of
     /// the room stays. The second result is how many bytes the reply has. The conditions are a port of the node, and
     /// room for any reply ([`MAX_REPLY`]).
     ///
@@ -169,7 +169,7 @@ impl SingleNode {
         port: u8,
         packet: Packet,
         room: &mut [u8],
-    ) -> (Told, usize)
+    ) -> (ServedDetail, usize)
         requires port { port < length self.old.passes }
         requires room { MAX_REPLY ≤ length room.old }
         ensures serves { ServesInto result.0 result.1 port packet self.old self.new room.old room.new }
@@ -184,10 +184,10 @@ impl SingleNode {
         let programs = &mut self.programs;
         let port = &mut self.ports[place];
         let reply = &mut self.reply;
-        let told = serve_at(alloc, windows, banks, cells, programs, port, packet, reply);
+        let reported = serve_at(alloc, windows, banks, cells, programs, port, packet, reply);
         let bytes = reply.bytes();
         put_front(room, bytes);
-        (told, bytes.len())
+        (reported, bytes.len())
     }
 
     /// How many ports there are: 1 to 32.
@@ -364,7 +364,7 @@ impl SingleNode {
     /// command, or a check of its header stops it. The condition is a port of the node.
     pub fn slot_for(&self, port: u8, packet: &Packet) -> Option<u8>
         requires { port < length self.now.passes }
-        ensures slot { result ≡ slot_in (slice_get self.now.passes port) packet.now }
+        ensures slot { result ≡ port_slot_in (slice_get self.now.passes port) packet.now }
         ensures few { IfSome result (λ slot. slot < 4) }
         ensures command { OnSome result (discard_of packet.now.bytes ≡ None) }
     {

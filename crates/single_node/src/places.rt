@@ -69,7 +69,7 @@ fn has_other(slots: &[Placed; 4], slot: u8, place: usize) -> bool
 }
 
 /// The first place whose program no other slot has, or the one after the last.
-#[tactic(auto, using(crate::proofs::Holding::none_behind))]
+#[tactic(auto, using(crate::proofs::Holding::none_after))]
 pub(crate) fn free_place(programs: &Vec<Publishing>, slots: &[Placed; 4], slot: u8) -> usize
     requires { (k : ℕ) → k < 4 → (placed_at slots.now k).place < length programs.now.items }
     ensures free { HasNoOther slots.now slot result }

@@ -9,7 +9,7 @@ ghost use Rattle.node_parts.specs.Pairs.{IsPaired};
 ghost use Rattle.node_parts.specs.Served.{parts};
 ghost use Rattle.node_parts.specs.declared.served.Served.TheVariants.{Stopped};
 ghost use Rattle.single_node.specs.Nodes.{IsInformed};
-ghost use Rattle.single_node.specs.Judging.{Ends, IsAppliedAt, ServesAt};
+ghost use Rattle.single_node.specs.Judging.{EndsJudged, IsAppliedAt, ServesAt};
 
 use crate::port::SinglePort;
 use crate::programs::SlotPrograms;
@@ -22,7 +22,7 @@ use std::alloc::Global;
 
 /// What became of a packet, with the program that judged its command and that program's verdict.
 #[derive(Clone, Copy, Debug, PartialEq, Eq)]
-pub struct Told {
+pub struct ServedDetail {
     /// What became of it.
     pub served: Served,
     /// The generation of the program that judged its command: its place in the list of what was published. If the
@@ -33,10 +33,10 @@ pub struct Told {
 }
 
 /// What the node reports of a packet that its header stops.
-fn stopped(stop: Stop) -> Told
+fn stopped(stop: Stop) -> ServedDetail
     ensures { result ≡ record { served = Stopped stop; generation = 0; verdict = 0 } }
 {
-    Told {
+    ServedDetail {
         served: Served::Stopped(stop),
         generation: 0,
         verdict: 0,
@@ -84,7 +84,7 @@ fn end(
     requires port { judged.port ≡ port.old.port }
     requires placed { IsPlacedBy port.old.windows judged.packet judged.place }
     requires begins { IsPrefix port.old.programs programs.old }
-    ensures { Ends result (parts banks.old programs.old) (parts banks.new programs.new)
+    ensures { EndsJudged result (parts banks.old programs.old) (parts banks.new programs.new)
         port.old port.new judged reply.new }
 {
     match judged.place() {
@@ -106,7 +106,7 @@ pub(crate) fn serve_at(
     port: &mut SinglePort,
     packet: Packet,
     reply: &mut ReplyBuf,
-) -> Told
+) -> ServedDetail
     requires paired { IsPaired banks.old port.old }
     requires informed { IsInformed programs.old port.old }
     requires sizes { cells.old.sizes ≡ sizes_of programs.old }
@@ -126,7 +126,7 @@ pub(crate) fn serve_at(
     let generation = judged.generation();
     let verdict = judged.verdict();
     let served = end(alloc, banks, programs, port, judged, reply);
-    Told {
+    ServedDetail {
         served,
         generation,
         verdict,

@@ -3,7 +3,7 @@ use Rattle.std.proofs.Common.{◌≡◌, ℕ, List, refl, subst, sym, Result, Ok
 use Rattle.std.specs.Prelude.{MatchResult}
 use Rattle.bpf.specs.declared.fault.ImageFault.{ImageFault}
 use Rattle.bpf.specs.declared.fault.ImageFault.TheVariants as faults
-use Rattle.bpf.specs.Reading.{Fails, image_reading}
+use Rattle.bpf.specs.Reading.{FailsReading, image_reading}
 use Rattle.bver.specs.Justified.{AcceptedValue}
 use Rattle.machine.specs.Sizes.{Maps}
 use Rattle.single_node_c.specs.Numbers.{maps_of}
@@ -14,7 +14,7 @@ use Rattle.single_node_c.specs.declared.numbers.MapNumbers.{MapNumbers}
 use Rattle.single_node_c.specs.declared.unfit.Unfit.{Unfit}
 
 -- by the fault that reading the image reported
-pub image_unfit : (maps : Maps) (bytes : List ℕ) (fault : ImageFault) → Fails fault (image_reading bytes)
+pub image_unfit : (maps : Maps) (bytes : List ℕ) (fault : ImageFault) → FailsReading fault (image_reading bytes)
     → IsImageUnfit maps bytes (unfit_of fault)
 image_unfit maps bytes faults.Memory h = of_memory refl
 image_unfit maps bytes faults.Magic h = of_image faults.Magic h refl
@@ -44,5 +44,5 @@ config_unopened ports banks numbers image factory are accepted (Err fault) h = b
 pub refused_unopened : {X : Type 0} (ports : ℕ) (banks : List BankNumbers) (numbers : List MapNumbers) (image : List ℕ)
     (fault : Unfit) → IsUnfit numbers image fault → (r : Result X Unfit) → r ≡ Err fault
     → IfErr r (IsUnopened ports banks numbers image)
-refused_unopened {X} ports banks numbers image fault h r told =
-    subst (λ (q : Result X Unfit). IfErr q (IsUnopened ports banks numbers image)) (sym told) (no_program h)
+refused_unopened {X} ports banks numbers image fault h r reported =
+    subst (λ (q : Result X Unfit). IfErr q (IsUnopened ports banks numbers image)) (sym reported) (no_program h)

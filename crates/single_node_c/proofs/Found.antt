@@ -4,7 +4,7 @@ use Rattle.std.specs.Prelude.{Result, Ok, Err, if◌then◌else◌, slice_get}
 use Rattle.std.proofs.lemmas.Option.{slice_get-get_or}
 use Rattle.bank.specs.Records.{BankValue, EntryValue, is_whole}
 use Rattle.single_node.specs.Nodes.{SingleNodeValue}
-use Rattle.single_node_c.specs.Journals.{entries_of, entry_at, found_entry}
+use Rattle.single_node_c.specs.Journals.{entries_of_bank, entry_at, found_entry}
 use Rattle.single_node_c.specs.declared.codes.TheConstants.{DAMAGED, NO_BANK}
 
 abbrev by_bank : Result EntryValue ℕ → Bool → Result EntryValue ℕ
@@ -22,8 +22,8 @@ found : (node : SingleNodeValue) (number place : ℕ) (bank : BankValue) (entrie
     → slice_get node.banks number ≡ Some bank → entries ≡ bank.journal.entries → slice_get entries place ≡ Some entry → is_whole entry ≡ whole
     → entry_at number place node ≡ by_entry entry whole
 found node number place bank entries entry whole inside own are at is =
-    ap (λ (none : Bool). by_bank (found_entry (slice_get (entries_of (slice_get node.banks number)) place)) none) inside
-    ∙ ap (λ (there : Option BankValue). found_entry (slice_get (entries_of there) place)) own
+    ap (λ (none : Bool). by_bank (found_entry (slice_get (entries_of_bank (slice_get node.banks number)) place)) none) inside
+    ∙ ap (λ (there : Option BankValue). found_entry (slice_get (entries_of_bank there) place)) own
     ∙ ap (λ (l : List EntryValue). found_entry (slice_get l place)) (sym are)
     ∙ ap (λ (there : Option EntryValue). found_entry there) at
     ∙ ap (λ (w : Bool). by_entry entry w) is

@@ -10,13 +10,13 @@ use Rattle.rmap.specs.Command.{CommandValue, command_of, discard_of}
 use Rattle.rmap.specs.Windows.{WindowsValue}
 use Rattle.rmap.specs.declared.discard.Discard.{Discard}
 use Rattle.scrub.specs.Guarded.{AnswersBy, AnswersOn, GuardedValue, ServesGuarded, Watched, beside}
-use Rattle.scrub.specs.declared.answer.Answer.{Answer}
+use Rattle.scrub.specs.declared.answer.ServedAnswer.{ServedAnswer}
 use Rattle.scrub.specs.declared.guard.Guard.{Guard}
 use Rattle.scrub.specs.declared.kept.SlotSums.{SlotSums}
 use Rattle.scrub.specs.Kept.{is_withheld}
-use Rattle.single_node.specs.Nodes.{SingleNodeValue, slot_in, slot_unless}
+use Rattle.single_node.specs.Nodes.{SingleNodeValue, port_slot_in, slot_unless}
 use Rattle.single_node.specs.Serving.{ServesInto}
-use Rattle.single_node.specs.declared.served.Told.{Told}
+use Rattle.single_node.specs.declared.served.ServedDetail.{ServedDetail}
 use Rattle.single_node_c.specs.Parts.{discard_in}
 use Rattle.spw.specs.Cargo.{Cargo}
 
@@ -33,34 +33,34 @@ asked_unless : (discard : Option Discard) (w : WindowsValue) (c : CommandValue) 
 asked_unless None w c slot is = refl
 asked_unless (Some d) w c slot is = absurd (cc is)
 
-asked_in : (o : Option PassValue) (p : Cargo) (slot : ℕ) → slot_in o p ≡ Some slot → discard_of p.bytes ≡ None
+asked_in : (o : Option PassValue) (p : Cargo) (slot : ℕ) → port_slot_in o p ≡ Some slot → discard_of p.bytes ≡ None
 asked_in None p slot is = absurd (cc is)
 asked_in (Some h) p slot is = asked_unless (discard_of p.bytes) h.windows (command_of p) slot is
 
-withheld_asked : (sums : List SlotSums) (asked : Option ℕ) (o : Option PassValue) (p : Cargo) → slot_in o p ≡ asked → is_withheld sums asked ≡ true → discard_of p.bytes ≡ None
+withheld_asked : (sums : List SlotSums) (asked : Option ℕ) (o : Option PassValue) (p : Cargo) → port_slot_in o p ≡ asked → is_withheld sums asked ≡ true → discard_of p.bytes ≡ None
 withheld_asked sums None o p is withheld = absurd (cc withheld)
 withheld_asked sums (Some slot) o p is withheld = asked_in o p slot is
 
 -- what became of a packet at a node of one thread
-of_into : (told : Told) (size port : ℕ) (p : Cargo) (before after : SingleNodeValue) (room left : List ℕ) → ServesInto told size port p before after room left
-    → discard_of p.bytes ≡ discard_in told.served
-of_into told size port p before after room left is =
+of_into : (reported : ServedDetail) (size port : ℕ) (p : Cargo) (before after : SingleNodeValue) (room left : List ℕ) → ServesInto reported size port p before after room left
+    → discard_of p.bytes ≡ discard_in reported.served
+of_into reported size port p before after room left is =
     let it = is.serves.serves in
-    of_answered told.served p _ _ it.holder it.left is.reply it.answered
+    of_answered reported.served p _ _ it.holder it.left is.reply it.answered
 
-of_answer : (withheld : Bool) (told : Told) (size port : ℕ) (p : Cargo) (before after : Watched) (room left : List ℕ) (o : Option PassValue)
-    → is_withheld before.guard.sums (slot_in o p) ≡ withheld → AnswersBy withheld told size port p before after room left → discard_of p.bytes ≡ discard_in told.served
-of_answer true told size port p before after room left o is answers =
-    withheld_asked before.guard.sums (slot_in o p) o p refl is ∙ ap (λ (t : Told). discard_in t.served) (sym answers.told_is)
-of_answer false told size port p before after room left o is answers = of_into told size port p before.node after.node room left answers.serves
+of_answer : (withheld : Bool) (reported : ServedDetail) (size port : ℕ) (p : Cargo) (before after : Watched) (room left : List ℕ) (o : Option PassValue)
+    → is_withheld before.guard.sums (port_slot_in o p) ≡ withheld → AnswersBy withheld reported size port p before after room left → discard_of p.bytes ≡ discard_in reported.served
+of_answer true reported size port p before after room left o is answers =
+    withheld_asked before.guard.sums (port_slot_in o p) o p refl is ∙ ap (λ (t : ServedDetail). discard_in t.served) (sym answers.reported_is)
+of_answer false reported size port p before after room left o is answers = of_into reported size port p before.node after.node room left answers.serves
 
-by_guard : (old new : Option Guard) (answer : Answer) (port : ℕ) (p : Cargo) (before after : SingleNodeValue) (room left : List ℕ) → AnswersOn old new answer port p before after room left
-    → discard_of p.bytes ≡ discard_in answer.told.served
-by_guard None new answer port p before after room left s = of_into answer.told answer.size port p before after room left s.2
+by_guard : (old new : Option Guard) (answer : ServedAnswer) (port : ℕ) (p : Cargo) (before after : SingleNodeValue) (room left : List ℕ) → AnswersOn old new answer port p before after room left
+    → discard_of p.bytes ≡ discard_in answer.reported.served
+by_guard None new answer port p before after room left s = of_into answer.reported answer.size port p before after room left s.2
 by_guard (Some old) new answer port p before after room left s =
     let it = s.2 in
-    of_answer (is_withheld it.between.guard.sums (slot_in (slice_get it.between.node.passes port) p)) answer.told answer.size port p it.between (beside s.0 after) room left (slice_get it.between.node.passes port) refl it.answers
+    of_answer (is_withheld it.between.guard.sums (port_slot_in (slice_get it.between.node.passes port) p)) answer.reported answer.size port p it.between (beside s.0 after) room left (slice_get it.between.node.passes port) refl it.answers
 
-pub discards : (answer : Answer) (port : ℕ) (p : Cargo) (before after : GuardedValue) (room left : List ℕ) → ServesGuarded answer port p before after room left
-    → discard_of p.bytes ≡ discard_in answer.told.served
+pub discards : (answer : ServedAnswer) (port : ℕ) (p : Cargo) (before after : GuardedValue) (room left : List ℕ) → ServesGuarded answer port p before after room left
+    → discard_of p.bytes ≡ discard_in answer.reported.served
 discards answer port p before after room left s = by_guard before.guard after.guard answer port p before.node after.node room left s

@@ -14,7 +14,7 @@ use denote.Steps.{nothing, owned, peeks}
 use denote.Struct.Struct.{within}
 use denote.Struct.Owning.{shape}
 use Rattle.core.specs.declared.option.Option.{Option}
-use Rattle.loose.specs.Held.{held}
+use Rattle.loose.specs.Held.{held_handle}
 use Rattle.single_node_c.specs.Held.{mark}
 use Rattle.single_node_c.specs.declared.handle.Handle.{Handle}
 use Rattle.single_node_c.specs.contracts.handle.Handle.{the_row as H, the_type}
@@ -26,11 +26,11 @@ word p n = vstruct (vcons (ptr_val p) (vcons (vint w32 n) vnil))
 
 module _ {M : Type 1} {𝓤 : Ura M} {𝓛 : Logic 𝓤} {K : Type 0} {Γ : List (Item 𝓤)} {G : Goal 𝓤 𝓛.H} where
   -- What the fields say is in the value. What the pointer leads to is left.
-  pub handle_out : K → (d : Handle) (vs : List Val) → (vs ≡ word d.inside d.live ∷ [] → Seq K 𝓛 (‵ (held mark C d.inside d.live d.kept) ∷ Γ) G) → Seq K 𝓛 (‵ (H.own_val d vs) ∷ Γ) G
+  pub handle_out : K → (d : Handle) (vs : List Val) → (vs ≡ word d.inside d.live ∷ [] → Seq K 𝓛 (‵ (held_handle mark C d.inside d.live d.kept) ∷ Γ) G) → Seq K 𝓛 (‵ (H.own_val d vs) ∷ Γ) G
   handle_out t d vs k = peeks t H (Is H) (shows 𝓛 H) d vs (λ is. fsplit t $ drop t $ k (lowers.val_is d vs is))
 
   pub handle_in : K → (p : Ptr) (n : ℕ) (k : Option C.Denot) → n < 2 ^ 32
-      → Step K 𝓛 (‵ (H.own_val (record { inside = p; live = n; kept = k }) (word p n ∷ [])) ∷ Γ) G (‵ (held mark C p n k) ∷ Γ) G
+      → Step K 𝓛 (‵ (H.own_val (record { inside = p; live = n; kept = k }) (word p n ∷ [])) ∷ Γ) G (‵ (held_handle mark C p n k) ∷ Γ) G
   handle_in t p n k fits = step (λ s.
       nothing t $ owned t u32 _ (uint_Makes 𝓛 w32) n (vint w32 n ∷ []) (refl, fits) $ fjoin t $ feq_i t (List Val) (ptr_val p ∷ []) (ptr_val p ∷ []) refl $ fjoin t $
       feq_i t (List Val) (word p n ∷ []) (word p n ∷ []) refl $ fjoin t $

@@ -13,9 +13,9 @@ mark = 937
 
 -- The code of a call that takes memory. It is that of the first test that fails. If all hold, the call is done, or
 -- memory was refused.
-abbrev pub IsCode : (test : Option ℕ) → (code : ℕ) → Type 0
-IsCode (Some fault) code = code ≡ fault
-IsCode None code = (code ≡ OK) ⊎ (code ≡ NO_MEMORY)
+abbrev pub IsCallCode : (test : Option ℕ) → (code : ℕ) → Type 0
+IsCallCode (Some fault) code = code ≡ fault
+IsCallCode None code = (code ≡ OK) ⊎ (code ≡ NO_MEMORY)
 
 -- The first test that fails of a call on the node of a handle and what is kept of it. The first is that there is one,
 -- then come its own.
@@ -35,8 +35,8 @@ code_on (Some guarded) code = code guarded.node
 
 -- what a call reports of the node of a handle, if it holds one
 abbrev pub IfNode : Option GuardedValue → (SingleNodeValue → Type 0) → Type 0
-IfNode None Tells = Unit {0}
-IfNode (Some guarded) Tells = Tells guarded.node
+IfNode None Reports = Unit {0}
+IfNode (Some guarded) Reports = Reports guarded.node
 
 -- the handle held a node and holds one, which are in that relation, with what is kept of its programs
 abbrev pub BecomesGuarded : (GuardedValue → GuardedValue → Type 0) → (old new : Option GuardedValue) → Type 0
@@ -45,9 +45,9 @@ BecomesGuarded Relates (Some before) None = ⊥
 BecomesGuarded Relates (Some before) (Some after) = Relates before after
 
 -- the nodes are in that relation, and what is kept of their programs is the same
-abbrev pub IsBeside : (SingleNodeValue → SingleNodeValue → Type 0) → (before after : GuardedValue) → Type 0
-IsBeside Relates before after = Relates before.node after.node × (after ≡ record before { node = after.node })
+abbrev pub AreNodesBeside : (SingleNodeValue → SingleNodeValue → Type 0) → (before after : GuardedValue) → Type 0
+AreNodesBeside Relates before after = Relates before.node after.node × (after ≡ record before { node = after.node })
 
 -- The handle held a node and holds one, which are in that relation. What is kept of its programs stays.
-abbrev pub Becomes : (SingleNodeValue → SingleNodeValue → Type 0) → (old new : Option GuardedValue) → Type 0
-Becomes Relates old new = BecomesGuarded (IsBeside Relates) old new
+abbrev pub BecomesNode : (SingleNodeValue → SingleNodeValue → Type 0) → (old new : Option GuardedValue) → Type 0
+BecomesNode Relates old new = BecomesGuarded (AreNodesBeside Relates) old new

@@ -16,7 +16,7 @@ bank_code number node = if nat_le (length node.banks) number then NO_BANK else O
 
 -- how many entries the journal of the bank of that number has, and how many programs were loaded after the factory
 -- program
-pub record TellsJournal (number : ℕ) (numbers : JournalNumbers) (node : SingleNodeValue) : Type 0 where
+pub record ReportsJournal (number : ℕ) (numbers : JournalNumbers) (node : SingleNodeValue) : Type 0 where
   pub bank : BankValue
   pub own : slice_get node.banks number ≡ Some bank
   pub entries : numbers.entries ≡ length bank.journal.entries
@@ -24,9 +24,9 @@ pub record TellsJournal (number : ℕ) (numbers : JournalNumbers) (node : Single
   pub unused : numbers.unused ≡ 0
 
 -- the entries of a bank, if there is one
-abbrev pub entries_of : Option BankValue → List EntryValue
-entries_of None = []
-entries_of (Some bank) = bank.journal.entries
+abbrev pub entries_of_bank : Option BankValue → List EntryValue
+entries_of_bank None = []
+entries_of_bank (Some bank) = bank.journal.entries
 
 -- an entry, or the code that there is none, or that it is not as it was made
 abbrev pub found_entry : Option EntryValue → Result EntryValue ℕ
@@ -37,7 +37,7 @@ found_entry (Some entry) = if is_whole entry then Ok entry else Err DAMAGED
 abbrev pub entry_at : (number place : ℕ) → SingleNodeValue → Result EntryValue ℕ
 entry_at number place node =
     if nat_le (length node.banks) number then Err NO_BANK
-    else found_entry (slice_get (entries_of (slice_get node.banks number)) place)
+    else found_entry (slice_get (entries_of_bank (slice_get node.banks number)) place)
 
 -- the code of a question for an entry, by the room for its packet
 abbrev pub room_code : Result EntryValue ℕ → (room : ℕ) → ℕ
@@ -50,7 +50,7 @@ entry_code number place room node = room_code (entry_at number place node) room
 
 -- The entry at that place of the journal of the bank of that number: its numbers, and its packet at the front of the
 -- room. The rest of the room is as before.
-pub record TellsEntry (number place : ℕ) (room left : List ℕ) (numbers : EntryNumbers) (node : SingleNodeValue) : Type 0
+pub record ReportsEntry (number place : ℕ) (room left : List ℕ) (numbers : EntryNumbers) (node : SingleNodeValue) : Type 0
   where
     pub entry : EntryValue
     pub found : entry_at number place node ≡ Ok entry

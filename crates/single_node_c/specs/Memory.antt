@@ -13,7 +13,7 @@ peek_code number address count node =
     else OK
 
 -- each byte is that of the bank of that number at its address, from the first one's on
-pub record TellsBytes (number address : ℕ) (bytes : List ℕ) (node : SingleNodeValue) : Type 0 where
+pub record ReportsBytes (number address : ℕ) (bytes : List ℕ) (node : SingleNodeValue) : Type 0 where
   pub bank : BankValue
   pub own : slice_get node.banks number ≡ Some bank
   pub bytes_are : (k : ℕ) → k < length bytes → slice_get bytes k ≡ byte_in bank.first bank.bytes (address + k)

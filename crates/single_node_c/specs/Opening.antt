@@ -8,15 +8,15 @@ use Rattle.bpf.specs.declared.fault.ImageFault.{ImageFault}
 use Rattle.bpf.specs.declared.fault.ImageFault.TheVariants as faults
 use Rattle.bver.specs.Justified.{AcceptedValue, IsJustified}
 use Rattle.bver.specs.Refusals.{IsRefusal}
-use Rattle.bver.specs.Unjustified.{TellsUnjustified}
+use Rattle.bver.specs.Unjustified.{ReportsUnjustified}
 use Rattle.bver_form.specs.Codes.{refusal_code}
 use Rattle.bver_form.specs.declared.refusal.Refusal.TheVariants.{Memory as RefusedMemory}
 use Rattle.bver_form.specs.declared.refusal.Refused.{Refused}
 use Rattle.machine.specs.Runs.{IsSafe}
 use Rattle.machine.specs.Sizes.{Maps, AreSizes}
 use Rattle.scrub.specs.Guarded.{GuardedValue, IsGuarded}
-use Rattle.single_node.specs.Nodes.{SingleNodeValue, IsFresh}
-use Rattle.single_node_c.specs.Numbers.{bank_of, maps_of}
+use Rattle.single_node.specs.Nodes.{SingleNodeValue, IsFreshNode}
+use Rattle.single_node_c.specs.Numbers.{bank_of_numbers, maps_of}
 use Rattle.single_node_c.specs.declared.codes.TheConstants.{OK, NO_MEMORY, BAD_CONFIG, BAD_MAPS, BAD_IMAGE, REFUSED}
 use Rattle.single_node_c.specs.declared.numbers.BankNumbers.{BankNumbers}
 use Rattle.single_node_c.specs.declared.numbers.MapNumbers.{MapNumbers}
@@ -41,11 +41,11 @@ pub record IsAccepted (maps : Maps) (image : List ℕ) (a : AcceptedValue) : Typ
   pub safe : IsSafe a.program maps
 
 -- the bytes spell a program, which the verifier refuses for those maps
-pub record IsRefused (maps : Maps) (image : List ℕ) (refused : Refused) : Type 0 where
+pub record IsProgramRefused (maps : Maps) (image : List ℕ) (refused : Refused) : Type 0 where
   pub program : Program
   pub spelled : image ≡ image_bytes program
   pub refusal : IsRefusal program refused
-  pub unjustified : TellsUnjustified program maps refused
+  pub unjustified : ReportsUnjustified program maps refused
 
 -- why an image may not judge if its bytes have that fault
 abbrev pub unfit_of : ImageFault → Unfit
@@ -64,7 +64,7 @@ pub data IsImageUnfit (maps : Maps) (image : List ℕ) (fault : Unfit) : Type 0 
   of_memory : fault ≡ Memory → IsImageUnfit maps image fault
   of_image : (first : ImageFault) → image_reading image ≡ Err first → fault ≡ Image first
       → IsImageUnfit maps image fault
-  of_program : (refused : Refused) → IsRefused maps image refused → refused.code ≢ RefusedMemory
+  of_program : (refused : Refused) → IsProgramRefused maps image refused → refused.code ≢ RefusedMemory
       → fault ≡ ProgramUnfit refused → IsImageUnfit maps image fault
 
 -- The same in a node with maps of those numbers. A node may not have these maps, which is tested first, or the image
@@ -74,12 +74,12 @@ pub data IsUnfit (numbers : List MapNumbers) (image : List ℕ) (fault : Unfit) 
   bad_image : AreMaps numbers → IsImageUnfit (maps_of numbers) image fault → IsUnfit numbers image fault
 
 -- the code for it
-abbrev pub code_of : Unfit → ℕ
-code_of Memory = NO_MEMORY
-code_of Config = BAD_CONFIG
-code_of MapsUnfit = BAD_MAPS
-code_of (Image fault) = BAD_IMAGE
-code_of (ProgramUnfit refused) = REFUSED
+abbrev pub code_of_opening : Unfit → ℕ
+code_of_opening Memory = NO_MEMORY
+code_of_opening Config = BAD_CONFIG
+code_of_opening MapsUnfit = BAD_MAPS
+code_of_opening (Image fault) = BAD_IMAGE
+code_of_opening (ProgramUnfit refused) = REFUSED
 
 -- no number and no slot
 abbrev pub no_why : Why
@@ -94,17 +94,17 @@ why_of (Image fault) = record { code = image_fault_code fault; slot = image_faul
 why_of (ProgramUnfit refused) = record { code = refusal_code refused.code; slot = refused.slot }
 
 -- what a call reports of an image: its program may judge in a node with those maps, or why it may not
-pub data TellsFit (numbers : List MapNumbers) (image : List ℕ) (code : ℕ) (why : Why) : Type 0 where
+pub data ReportsFit (numbers : List MapNumbers) (image : List ℕ) (code : ℕ) (why : Why) : Type 0 where
   fit : (a : AcceptedValue) → AreMaps numbers → IsAccepted (maps_of numbers) image a → code ≡ OK → why ≡ no_why
-      → TellsFit numbers image code why
-  unfit : (fault : Unfit) → IsUnfit numbers image fault → code ≡ code_of fault → why ≡ why_of fault
-      → TellsFit numbers image code why
+      → ReportsFit numbers image code why
+  unfit : (fault : Unfit) → IsUnfit numbers image fault → code ≡ code_of_opening fault → why ≡ why_of fault
+      → ReportsFit numbers image code why
 
 -- ---- nodes
 
 -- 1 to 32 ports, and 1 to 8 banks, each within its limits
 abbrev pub is_config : (ports : ℕ) → List BankNumbers → Bool
-is_config ports banks = is_ports ports && are_within (map bank_of banks)
+is_config ports banks = is_ports ports && are_within (map bank_of_numbers banks)
 
 -- the node is a fresh one with that address, those ports and banks, and that program, which judges in each slot
 pub record IsOpened (address ports : ℕ) (banks : List BankNumbers) (factory : AcceptedValue) (node : SingleNodeValue) :
@@ -112,8 +112,8 @@ pub record IsOpened (address ports : ℕ) (banks : List BankNumbers) (factory : 
   pub config : NodeConfig
   pub address_is : config.address ≡ address
   pub ports_are : config.ports ≡ ports
-  pub banks_are : config.banks.now ≡ map bank_of banks
-  pub fresh : IsFresh config factory node
+  pub banks_are : config.banks.now ≡ map bank_of_numbers banks
+  pub fresh : IsFreshNode config factory node
   pub within : limit_fault config ≡ None
 
 -- Why a node is not made of those ports and banks. They are outside their limits, or else memory was refused.
@@ -130,7 +130,7 @@ pub data IsUnopened (ports : ℕ) (banks : List BankNumbers) (numbers : List Map
 
 -- The node is a fresh one with that address, those ports and banks, and the program that the image spells. That program
 -- was accepted for those maps and judges in each slot.
-pub record IsMade (address ports : ℕ) (banks : List BankNumbers) (numbers : List MapNumbers) (image : List ℕ)
+pub record IsNodeMade (address ports : ℕ) (banks : List BankNumbers) (numbers : List MapNumbers) (image : List ℕ)
     (node : SingleNodeValue) : Type 0 where
   pub factory : AcceptedValue
   pub maps : AreMaps numbers
@@ -139,10 +139,10 @@ pub record IsMade (address ports : ℕ) (banks : List BankNumbers) (numbers : Li
 
 -- What an opening reports. The handle holds the node that was made, with the sums of its programs, or the call says why
 -- it holds none.
-pub data TellsOpening (address ports : ℕ) (banks : List BankNumbers) (numbers : List MapNumbers) (image : List ℕ)
+pub data ReportsOpening (address ports : ℕ) (banks : List BankNumbers) (numbers : List MapNumbers) (image : List ℕ)
     (kept : Option GuardedValue) (code : ℕ) (why : Why) : Type 0 where
-  opened : (guarded : GuardedValue) → IsMade address ports banks numbers image guarded.node
+  opened : (guarded : GuardedValue) → IsNodeMade address ports banks numbers image guarded.node
       → IsGuarded (Some 0) guarded.node guarded → kept ≡ Some guarded → code ≡ OK → why ≡ no_why
-      → TellsOpening address ports banks numbers image kept code why
-  unopened : (fault : Unfit) → IsUnopened ports banks numbers image fault → kept ≡ None → code ≡ code_of fault
-      → why ≡ why_of fault → TellsOpening address ports banks numbers image kept code why
+      → ReportsOpening address ports banks numbers image kept code why
+  unopened : (fault : Unfit) → IsUnopened ports banks numbers image fault → kept ≡ None → code ≡ code_of_opening fault
+      → why ≡ why_of fault → ReportsOpening address ports banks numbers image kept code why

@@ -20,8 +20,8 @@ command_number Write = WRITE
 command_number Rmw = RMW
 
 -- what a command asks for: its kind, and the fields of its header that say where and how much
-abbrev pub parts_of : CommandValue → ServedParts
-parts_of c = record {
+abbrev pub command_parts_of : CommandValue → ServedParts
+command_parts_of c = record {
   command = command_number (command_kind c);
   extended = extended_of c;
   address = address_of c;
@@ -46,7 +46,7 @@ discard_in (Window status) = None
 
 -- what a packet asks for, by why it is no command, if it is none
 abbrev pub parts_unless : Option Discard → CommandValue → ServedParts
-parts_unless None c = parts_of c
+parts_unless None c = command_parts_of c
 parts_unless (Some discard) c = no_parts
 
 -- what a packet asks for: the parts of its command, or zeros if it is none

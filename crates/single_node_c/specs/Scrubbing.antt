@@ -7,12 +7,12 @@ use Rattle.scrub.specs.declared.guard.Health.TheVariants.{Whole, Mended, Unmende
 use Rattle.scrub.specs.declared.guard.Scrubbed.{Scrubbed}
 use Rattle.scrub.specs.Damage.{broken_of, no_broken}
 use Rattle.scrub.specs.Guarded.{GuardedValue, Installs, ScrubsGuarded, has_counting, has_sizes}
-use Rattle.scrub.specs.declared.damage.Broken.{Broken}
+use Rattle.scrub.specs.declared.damage.BrokenBits.{BrokenBits}
 use Rattle.single_node_c.specs.Opening.{IsAccepted}
 use Rattle.single_node_c.specs.Held.{code_on}
 use Rattle.single_node_c.specs.declared.codes.TheConstants.{NO_MEMORY, NO_PART, OK}
 use Rattle.single_node_c.specs.declared.numbers.ScrubbedNumbers.{ScrubbedNumbers}
-use Rattle.single_node_c.specs.declared.scrubbing.Programs.{Programs}
+use Rattle.single_node_c.specs.declared.scrubbing.ProgramBits.{ProgramBits}
 use Rattle.single_node_c.specs.declared.scrubbing.Restored.{Restored}
 use Rattle.single_node_c.specs.declared.scrubbing.Restored.TheVariants.{Done, Nothing, Short}
 use Rattle.single_node_c.specs.declared.scrubbing.TheConstants.{ALL, COUNT_DIFFERS, JOURNALS, PROGRAMS, SIZES, SIZES_DIFFER}
@@ -33,12 +33,12 @@ withdrawn_bit Unmended bit = bit
 
 -- the bits of the slots whose programs were mended
 abbrev pub mended_bits : Scrubbed → ℕ
-mended_bits told = mended_bit told.reads 1 + mended_bit told.writes 2 + mended_bit told.rmws 4 + mended_bit told.window 8
+mended_bits reported = mended_bit reported.reads 1 + mended_bit reported.writes 2 + mended_bit reported.rmws 4 + mended_bit reported.window 8
 
 -- the bits of the slots that are withdrawn
 abbrev pub withdrawn_bits : Scrubbed → ℕ
-withdrawn_bits told =
-    withdrawn_bit told.reads 1 + withdrawn_bit told.writes 2 + withdrawn_bit told.rmws 4 + withdrawn_bit told.window 8
+withdrawn_bits reported =
+    withdrawn_bit reported.reads 1 + withdrawn_bit reported.writes 2 + withdrawn_bit reported.rmws 4 + withdrawn_bit reported.window 8
 
 -- the program that the image spells was accepted for the maps of the node, and published for the slot of the boot window
 pub record IsRestored (image : List ℕ) (before after : GuardedValue) : Type 0 where
@@ -79,22 +79,22 @@ is_window_short window Nothing = is_unmended window
 is_window_short window Short = true
 
 -- a slot is withdrawn because memory was refused
-abbrev pub is_short : Scrubbed → Restored → Bool
-is_short told restored =
-    is_unmended told.reads || is_unmended told.writes || is_unmended told.rmws || is_window_short told.window restored
+abbrev pub is_slot_short : Scrubbed → Restored → Bool
+is_slot_short reported restored =
+    is_unmended reported.reads || is_unmended reported.writes || is_unmended reported.rmws || is_window_short reported.window restored
 
 -- The slots were scrubbed, and the numbers say what was found. Then the slot of the boot window was restored, if it
 -- could be.
-pub record ScrubsAll (image : List ℕ) (numbers : Programs) (before after : GuardedValue) : Type 0 where
-  pub told : Scrubbed
+pub record ScrubsAllSlots (image : List ℕ) (numbers : ProgramBits) (before after : GuardedValue) : Type 0 where
+  pub reported : Scrubbed
   pub between : GuardedValue
   pub restored : Restored
-  pub scrubs : ScrubsGuarded told image before between
-  pub restores : RestoresIf told.window image restored between after
-  pub mended_is : numbers.mended ≡ mended_bits told
-  pub withdrawn_is : numbers.withdrawn ≡ withdrawn_bits told
+  pub scrubs : ScrubsGuarded reported image before between
+  pub restores : RestoresIf reported.window image restored between after
+  pub mended_is : numbers.mended ≡ mended_bits reported
+  pub withdrawn_is : numbers.withdrawn ≡ withdrawn_bits reported
   pub restored_is : numbers.restored ≡ restored_number restored
-  pub short_is : numbers.is_short ≡ is_short told restored
+  pub short_is : numbers.is_slot_short ≡ is_slot_short reported restored
 
 -- ---- parts
 
@@ -107,17 +107,17 @@ abbrev pub scrub_test : Option GuardedValue → (what : ℕ) → ℕ
 scrub_test kept what = code_on kept (λ _. if nat_lt ALL what then NO_PART else OK)
 
 -- the code of a scrub that was done, by whether a slot is withdrawn because memory was refused
-abbrev pub short_code : (is_short : Bool) → ℕ
-short_code is_short = if is_short then NO_MEMORY else OK
+abbrev pub short_code : (is_slot_short : Bool) → ℕ
+short_code is_slot_short = if is_slot_short then NO_MEMORY else OK
 
 -- the numbers of programs that nobody asks for
-abbrev pub no_programs : Programs
-no_programs = record { mended = 0; withdrawn = 0; restored = 0; is_short = false }
+abbrev pub no_programs : ProgramBits
+no_programs = record { mended = 0; withdrawn = 0; restored = 0; is_slot_short = false }
 
 -- the programs are scrubbed if they are asked for
-abbrev pub ScrubsIf : (asked : Bool) → List ℕ → Programs → (before after : GuardedValue) → Type 0
-ScrubsIf true image told before after = ScrubsAll image told before after
-ScrubsIf false image told before after = (told ≡ no_programs) × (after ≡ before)
+abbrev pub ScrubsIf : (asked : Bool) → List ℕ → ProgramBits → (before after : GuardedValue) → Type 0
+ScrubsIf true image reported before after = ScrubsAllSlots image reported before after
+ScrubsIf false image reported before after = (reported ≡ no_programs) × (after ≡ before)
 
 -- The number of the sizes: whether they have the sum that was kept of them, and the numbers of scrubs before packets
 -- agree with their complements.
@@ -131,7 +131,7 @@ abbrev pub sizes_if : (asked : Bool) → GuardedValue → ℕ
 sizes_if asked g = if asked then sizes_number (has_sizes g.guard g.node) (has_counting g.guard) else 0
 
 -- the entries that are not whole, if they are asked for
-abbrev pub broken_if : (asked : Bool) → GuardedValue → Broken
+abbrev pub broken_if : (asked : Bool) → GuardedValue → BrokenBits
 broken_if asked g = if asked then broken_of g.node.banks else no_broken
 
 -- the number of a place, or 0
@@ -140,7 +140,7 @@ place_number None = 0
 place_number (Some place) = place
 
 -- the numbers of what a scrub found
-abbrev pub scrubbed_numbers : Programs → (sizes : ℕ) → Broken → ScrubbedNumbers
+abbrev pub scrubbed_numbers : ProgramBits → (sizes : ℕ) → BrokenBits → ScrubbedNumbers
 scrubbed_numbers programs sizes broken = record {
   first = place_number broken.first;
   mended = programs.mended;
@@ -156,8 +156,8 @@ scrubbed_numbers programs sizes broken = record {
 -- what is not as it was. The code is lack of memory exactly if a slot is withdrawn for that.
 pub record ScrubsPart (what : ℕ) (image : List ℕ) (numbers : ScrubbedNumbers) (code : ℕ) (before after : GuardedValue) :
     Type 0 where
-  pub programs : Programs
+  pub programs : ProgramBits
   pub scrubs : ScrubsIf (asks what PROGRAMS) image programs before after
   pub numbers_are : numbers
       ≡ scrubbed_numbers programs (sizes_if (asks what SIZES) after) (broken_if (asks what JOURNALS) after)
-  pub code_is : code ≡ short_code programs.is_short
+  pub code_is : code ≡ short_code programs.is_slot_short

@@ -14,5 +14,5 @@ abbrev pub word_code : (map cell : ℕ) → SingleNodeValue → ℕ
 word_code map cell node = found_code (word_in node.words map cell)
 
 -- the word is that of the cell
-abbrev pub TellsWord : (map cell word : ℕ) → SingleNodeValue → Type 0
-TellsWord map cell word node = word_in node.words map cell ≡ Some word
+abbrev pub ReportsWord : (map cell word : ℕ) → SingleNodeValue → Type 0
+ReportsWord map cell word node = word_in node.words map cell ≡ Some word

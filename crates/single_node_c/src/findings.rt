@@ -3,7 +3,7 @@
 ghost use Rattle.std.specs.Prelude.{◌≡◌};
 ghost use Rattle.single_node_c.specs.Finding.{found_number, found_slot, health_number};
 
-use scrub::{Found, Health};
+use scrub::{ScrubFindings, Health};
 
 /// No scrub was due before the packet.
 pub const UNSCRUBBED: u8 = 0;
@@ -32,7 +32,7 @@ fn health_number(health: Health) -> u8
 }
 
 /// The number of what a scrub before a packet found.
-pub fn found_number(found: Option<Found>) -> u8
+pub fn found_number(found: Option<ScrubFindings>) -> u8
     ensures { result ≡ found_number found }
 {
     match found {
@@ -42,7 +42,7 @@ pub fn found_number(found: Option<Found>) -> u8
 }
 
 /// The slot that a scrub before a packet looked at.
-pub fn found_slot(found: Option<Found>) -> u8
+pub fn found_slot(found: Option<ScrubFindings>) -> u8
     ensures { result ≡ found_slot found }
 {
     match found {

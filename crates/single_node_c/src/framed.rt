@@ -29,12 +29,12 @@ pub extern "C" fn sandbar_frames_take(
     handle: &mut FramesHandle,
     bytes: &[u8],
     packet: &mut [u8],
-    came: &mut CameNumbers,
+    received: &mut CameNumbers,
 ) -> u32
-    ensures { TakesFrames bytes.now packet.old packet.new came.old came.new
+    ensures { TakesFrames bytes.now packet.old packet.new received.old received.new
         handle.old.kept handle.new.kept result }
 {
-    handle.take(alloc, bytes, packet, came)
+    handle.take(alloc, bytes, packet, received)
 }
 
 /// Ends a reader of frames, and gives back its memory. What it held of a packet is gone.

@@ -24,11 +24,11 @@ pub struct Handle {
 }
 
 impl Model for Handle {
-    ghost use Rattle.loose.specs.Held.{held};
+    ghost use Rattle.loose.specs.Held.{held_handle};
     ghost use Rattle.single_node_c.specs.Held.{mark};
     ghost use Rattle.scrub.specs.contracts.guarded.GuardedNode.{the_row};
 
-    ghost also_owns = { λ h. held mark the_row h.inside h.live h.kept };
+    ghost also_owns = { λ h. held_handle mark the_row h.inside h.live h.kept };
 }
 
 impl Handle {

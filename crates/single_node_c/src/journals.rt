@@ -1,8 +1,8 @@
 //! The journals of the banks.
 
 ghost use Rattle.std.specs.Prelude.{◌≡◌, ◌≢◌, ◌<◌, ◌≤◌, Err, IfErr, MatchResult, Ok, length, slice_get};
-ghost use Rattle.single_node_c.specs.Held.{Becomes, IsCode, IfNode, code_on, test_on};
-ghost use Rattle.single_node_c.specs.Journals.{TellsEntry, TellsJournal, bank_code, entry_at, entry_code, room_at, room_code, rotate_test};
+ghost use Rattle.single_node_c.specs.Held.{BecomesNode, IsCallCode, IfNode, code_on, test_on};
+ghost use Rattle.single_node_c.specs.Journals.{ReportsEntry, ReportsJournal, bank_code, entry_at, entry_code, room_at, room_code, rotate_test};
 ghost use Rattle.single_node_c.specs.Numbers.{entry_numbers};
 ghost use Rattle.single_node.specs.Nodes.{RotatesTo, room_in};
 ghost use Rattle.spw.specs.Rooms.{put_front};
@@ -20,7 +20,7 @@ use std::alloc::Global;
 /// The numbers of the journal of a bank.
 fn journal_of(node: &SingleNode, bank: u8) -> JournalNumbers
     requires { bank < length node.now.banks }
-    ensures { TellsJournal bank result node.now }
+    ensures { ReportsJournal bank result node.now }
 {
     JournalNumbers {
         entries: node.bank(bank).entries().len() as u64,
@@ -30,9 +30,9 @@ fn journal_of(node: &SingleNode, bank: u8) -> JournalNumbers
 }
 
 /// Reports the numbers of the journal of a bank, if there is that bank, and gives a code.
-fn tell_journal(node: &SingleNode, bank: u8, numbers: &mut JournalNumbers) -> u32
+fn report_journal(node: &SingleNode, bank: u8, numbers: &mut JournalNumbers) -> u32
     ensures code { result ≡ bank_code bank node.now }
-    ensures told { result ≡ OK → TellsJournal bank numbers.new node.now }
+    ensures reported { result ≡ OK → ReportsJournal bank numbers.new node.now }
     ensures numbers { result ≢ OK → numbers.new ≡ numbers.old }
 {
     if bank >= node.banks() {
@@ -51,14 +51,14 @@ pub extern "C" fn sandbar_journal_of(
     numbers: &mut JournalNumbers,
 ) -> u32
     ensures code { result ≡ code_on handle.old.kept (bank_code bank) }
-    ensures told { result ≡ OK → IfNode handle.old.kept (TellsJournal bank numbers.new) }
+    ensures reported { result ≡ OK → IfNode handle.old.kept (ReportsJournal bank numbers.new) }
     ensures numbers { result ≢ OK → numbers.new ≡ numbers.old }
     ensures node { handle.new.kept ≡ handle.old.kept }
 {
     let Some(guarded) = take(alloc, handle) else {
         return NO_NODE;
     };
-    let code = tell_journal(&guarded.node, bank, numbers);
+    let code = report_journal(&guarded.node, bank, numbers);
     put(alloc, handle, guarded);
     code
 }
@@ -89,7 +89,7 @@ fn entry_at(node: &SingleNode, bank: u8, place: u32) -> Result<&Entry, u32>
 fn copy_entry(entry: &Entry, room: &mut [u8], numbers: &mut EntryNumbers) -> u32
     ensures code { result ≡ room_code (Ok entry.now) (length room.old) }
     ensures packet { result ≡ OK → room.new ≡ put_front room.old entry.now.packet.bytes }
-    ensures told { result ≡ OK → numbers.new ≡ entry_numbers entry.now }
+    ensures reported { result ≡ OK → numbers.new ≡ entry_numbers entry.now }
     ensures room { result ≢ OK → room.new ≡ room.old }
     ensures numbers { result ≢ OK → numbers.new ≡ numbers.old }
 {
@@ -103,7 +103,7 @@ fn copy_entry(entry: &Entry, room: &mut [u8], numbers: &mut EntryNumbers) -> u32
 }
 
 /// Copies the entry at a place of the journal of a bank, if there is one and room for its packet, and gives a code.
-fn tell_entry(
+fn copy_entry_at(
     node: &SingleNode,
     bank: u8,
     place: u32,
@@ -111,7 +111,7 @@ fn tell_entry(
     numbers: &mut EntryNumbers,
 ) -> u32
     ensures code { result ≡ entry_code bank place (length room.old) node.now }
-    ensures told { result ≡ OK → TellsEntry bank place room.old room.new numbers.new node.now }
+    ensures reported { result ≡ OK → ReportsEntry bank place room.old room.new numbers.new node.now }
     ensures room { result ≢ OK → room.new ≡ room.old }
     ensures numbers { result ≢ OK → numbers.new ≡ numbers.old }
 {
@@ -134,8 +134,8 @@ pub extern "C" fn sandbar_entry_at(
     numbers: &mut EntryNumbers,
 ) -> u32
     ensures code { result ≡ code_on handle.old.kept (entry_code bank place (length packet.old)) }
-    ensures told { result ≡ OK
-        → IfNode handle.old.kept (TellsEntry bank place packet.old packet.new numbers.new) }
+    ensures reported { result ≡ OK
+        → IfNode handle.old.kept (ReportsEntry bank place packet.old packet.new numbers.new) }
     ensures packet { result ≢ OK → packet.new ≡ packet.old }
     ensures numbers { result ≢ OK → numbers.new ≡ numbers.old }
     ensures node { handle.new.kept ≡ handle.old.kept }
@@ -143,7 +143,7 @@ pub extern "C" fn sandbar_entry_at(
     let Some(guarded) = take(alloc, handle) else {
         return NO_NODE;
     };
-    let code = tell_entry(&guarded.node, bank, place, packet, numbers);
+    let code = copy_entry_at(&guarded.node, bank, place, packet, numbers);
     put(alloc, handle, guarded);
     code
 }
@@ -151,7 +151,7 @@ pub extern "C" fn sandbar_entry_at(
 /// Begins a new journal of that room at a bank, if the room and the bank allow it, and gives a code. It asks for memory
 /// only if the room is more than that of the old journal.
 fn rotate(alloc: Global, node: &mut SingleNode, bank: u8, room: u32) -> u32
-    ensures code { IsCode (rotate_test bank room node.old) result }
+    ensures code { IsCallCode (rotate_test bank room node.old) result }
     ensures turned { room ≤ room_in (slice_get node.old.banks bank) → result ≢ NO_MEMORY }
     ensures rotated { result ≡ OK → RotatesTo bank room node.old node.new }
     ensures node { result ≢ OK → node.new ≡ node.old }
@@ -177,9 +177,9 @@ fn rotate(alloc: Global, node: &mut SingleNode, bank: u8, room: u32) -> u32
 /// on. If the room is at most that of the old journal it takes no memory.
 #[unsafe(no_mangle)]
 pub extern "C" fn sandbar_rotate(alloc: Global, handle: &mut Handle, bank: u8, room: u32) -> u32
-    ensures code { IsCode (test_on handle.old.kept (rotate_test bank room)) result }
+    ensures code { IsCallCode (test_on handle.old.kept (rotate_test bank room)) result }
     ensures turned { room ≤ room_at handle.old.kept bank → result ≢ NO_MEMORY }
-    ensures rotated { result ≡ OK → Becomes (RotatesTo bank room) handle.old.kept handle.new.kept }
+    ensures rotated { result ≡ OK → BecomesNode (RotatesTo bank room) handle.old.kept handle.new.kept }
     ensures node { result ≢ OK → handle.new.kept ≡ handle.old.kept }
 {
     let Some(mut guarded) = take(alloc, handle) else {

@@ -1,7 +1,7 @@
 //! Lists of numbers that come from C, as the node has them.
 
 ghost use Rattle.std.specs.Prelude.{◌≡◌, ◌≤◌, ◌↔◌, All, IsTrue, length, map, take};
-ghost use Rattle.single_node_c.specs.Numbers.{bank_of, kind_of_map, map_of};
+ghost use Rattle.single_node_c.specs.Numbers.{bank_of_numbers, map_kind_of_number, map_of_numbers};
 
 use crate::numbers::{BankNumbers, MapNumbers};
 use machine::MapKind;
@@ -13,7 +13,7 @@ pub const MAX_MAPS: usize = 8;
 /// The banks of these numbers, with others after them up to eight.
 pub fn banks_of(numbers: &[BankNumbers]) -> [BankConfig; 8]
     requires { length numbers.now ≤ 8 }
-    ensures { take (length numbers.now) result ≡ map bank_of numbers.now }
+    ensures { take (length numbers.now) result ≡ map bank_of_numbers numbers.now }
 {
     let mut banks = [BankConfig {
         base: 0,
@@ -28,8 +28,8 @@ pub fn banks_of(numbers: &[BankNumbers]) -> [BankConfig; 8]
 }
 
 /// What the cells of a map with that number are for.
-fn kind_of_map(peak: u16) -> MapKind
-    ensures { result ≡ kind_of_map peak }
+fn map_kind_of_number(peak: u16) -> MapKind
+    ensures { result ≡ map_kind_of_number peak }
 {
     if peak == 0 {
         MapKind::Counter
@@ -41,11 +41,11 @@ fn kind_of_map(peak: u16) -> MapKind
 /// The maps of these numbers, with others after them up to eight.
 pub fn maps_of(numbers: &[MapNumbers]) -> [(u16, MapKind); MAX_MAPS]
     requires { length numbers.now ≤ 8 }
-    ensures { take (length numbers.now) result ≡ map map_of numbers.now }
+    ensures { take (length numbers.now) result ≡ map map_of_numbers numbers.now }
 {
     let mut maps = [(0, MapKind::Counter); MAX_MAPS];
     for k in 0..numbers.len() {
-        maps[k] = (numbers[k].cells, kind_of_map(numbers[k].peak));
+        maps[k] = (numbers[k].cells, map_kind_of_number(numbers[k].peak));
     }
     maps
 }

@@ -6,9 +6,9 @@ ghost use Rattle.bank.specs.declared.bank.TheConstants.{MAX_SIZE};
 ghost use Rattle.rcrc.specs.Crc.{crc_of};
 ghost use Rattle.rcrc.specs.Polynomial.{IsRemainder};
 ghost use Rattle.single_node.specs.Nodes.{SetsBytes, room_in};
-ghost use Rattle.single_node_c.specs.Held.{Becomes, IsCode, IfNode, code_on, test_on};
+ghost use Rattle.single_node_c.specs.Held.{BecomesNode, IsCallCode, IfNode, code_on, test_on};
 ghost use Rattle.single_node_c.specs.Journals.{room_at};
-ghost use Rattle.single_node_c.specs.Memory.{TellsBytes, peek_code, poke_test};
+ghost use Rattle.single_node_c.specs.Memory.{ReportsBytes, peek_code, poke_test};
 ghost use Rattle.single_node_c.specs.declared.codes.TheConstants.{NO_MEMORY, OK};
 
 use crate::codes::{BAD_CONFIG, NO_BANK, NO_MEMORY, NO_NODE, NO_ROOM, OK};
@@ -58,7 +58,7 @@ fn copy_bytes(bank: &Bank, address: u32, bytes: &mut [u8])
 /// Copies the bytes of a bank from an address on, if they lie in it, and gives a code.
 fn peek(node: &SingleNode, bank: u8, address: u32, bytes: &mut [u8]) -> u32
     ensures code { result ≡ peek_code bank address (length bytes.old) node.now }
-    ensures told { result ≡ OK → TellsBytes bank address bytes.new node.now }
+    ensures reported { result ≡ OK → ReportsBytes bank address bytes.new node.now }
     ensures length { length bytes.new ≡ length bytes.old }
     ensures bytes { result ≢ OK → bytes.new ≡ bytes.old }
 {
@@ -82,7 +82,7 @@ pub extern "C" fn sandbar_peek(
     bytes: &mut [u8],
 ) -> u32
     ensures code { result ≡ code_on handle.old.kept (peek_code bank address (length bytes.old)) }
-    ensures told { result ≡ OK → IfNode handle.old.kept (TellsBytes bank address bytes.new) }
+    ensures reported { result ≡ OK → IfNode handle.old.kept (ReportsBytes bank address bytes.new) }
     ensures length { length bytes.new ≡ length bytes.old }
     ensures bytes { result ≢ OK → bytes.new ≡ bytes.old }
     ensures node { handle.new.kept ≡ handle.old.kept }
@@ -105,7 +105,7 @@ fn poke(
     bytes: &[u8],
     room: u32,
 ) -> u32
-    ensures code { IsCode (poke_test bank address (length bytes.now) room node.old) result }
+    ensures code { IsCallCode (poke_test bank address (length bytes.now) room node.old) result }
     ensures turned { room ≤ room_in (slice_get node.old.banks bank) → result ≢ NO_MEMORY }
     ensures set { result ≡ OK → SetsBytes bank address bytes.now room node.old node.new }
     ensures node { result ≢ OK → node.new ≡ node.old }
@@ -142,11 +142,11 @@ pub extern "C" fn sandbar_poke(
     bytes: &[u8],
     room: u32,
 ) -> u32
-    ensures code { IsCode (test_on handle.old.kept
+    ensures code { IsCallCode (test_on handle.old.kept
         (poke_test bank address (length bytes.now) room)) result }
     ensures turned { room ≤ room_at handle.old.kept bank → result ≢ NO_MEMORY }
     ensures set { result ≡ OK
-        → Becomes (SetsBytes bank address bytes.now room) handle.old.kept handle.new.kept }
+        → BecomesNode (SetsBytes bank address bytes.now room) handle.old.kept handle.new.kept }
     ensures node { result ≢ OK → handle.new.kept ≡ handle.old.kept }
 {
     let Some(mut guarded) = take(alloc, handle) else {

@@ -2,13 +2,13 @@
 //! fields of their own, and 0.
 
 ghost use Rattle.std.specs.Prelude.{◌≡◌};
-ghost use Rattle.single_node_c.specs.Numbers.{entry_numbers, end_number, end_of, kind_of, place_of, served_numbers, status_of};
+ghost use Rattle.single_node_c.specs.Numbers.{entry_numbers, end_code, end_of_number, served_kind_of, served_place_of, served_numbers, served_status_of};
 
 use crate::findings::{found_number, found_slot};
 use crate::parts::ServedParts;
 use bank::Entry;
 use node_parts::{Served, Stop};
-use scrub::Answer;
+use scrub::ServedAnswer;
 use spw::End;
 
 /// One bank.
@@ -107,8 +107,8 @@ pub const ANSWERED: u8 = 1;
 pub const JUDGED: u8 = 2;
 
 /// The kind of what became of a packet.
-fn kind_of(served: Served) -> u8
-    ensures { result ≡ kind_of served }
+fn served_kind_of(served: Served) -> u8
+    ensures { result ≡ served_kind_of served }
 {
     match served {
         Served::Stopped(Stop::Discarded(_)) => DISCARDED,
@@ -118,8 +118,8 @@ fn kind_of(served: Served) -> u8
 }
 
 /// The number of a discard, or the status of a reply.
-fn status_of(served: Served) -> u8
-    ensures { result ≡ status_of served }
+fn served_status_of(served: Served) -> u8
+    ensures { result ≡ served_status_of served }
 {
     match served {
         Served::Stopped(Stop::Discarded(discard)) => discard.code(),
@@ -140,8 +140,8 @@ pub const AT_BANK: u8 = 1;
 pub const AT_WINDOW: u8 = 2;
 
 /// Where a packet's command ended.
-fn place_of(served: Served) -> u8
-    ensures { result ≡ place_of served }
+fn served_place_of(served: Served) -> u8
+    ensures { result ≡ served_place_of served }
 {
     match served {
         Served::Stopped(_) | Served::Unread => NOWHERE,
@@ -153,20 +153,20 @@ fn place_of(served: Served) -> u8
 impl ServedNumbers {
     /// The numbers of what became of a packet that asks for these parts. Its bank's journal then has that much room
     /// left, and its reply has that many bytes.
-    pub fn of(answer: Answer, parts: ServedParts, room: u32, reply_length: u32) -> ServedNumbers
+    pub fn of(answer: ServedAnswer, parts: ServedParts, room: u32, reply_length: u32) -> ServedNumbers
         ensures { result ≡ served_numbers answer parts room reply_length }
     {
         ServedNumbers {
-            verdict: answer.told.verdict,
-            generation: answer.told.generation,
+            verdict: answer.reported.verdict,
+            generation: answer.reported.generation,
             reply_length,
             address: parts.address,
             length: parts.length,
             room,
-            kind: kind_of(answer.told.served),
-            status: status_of(answer.told.served),
+            kind: served_kind_of(answer.reported.served),
+            status: served_status_of(answer.reported.served),
             command: parts.command,
-            place: place_of(answer.told.served),
+            place: served_place_of(answer.reported.served),
             extended: parts.extended,
             found: found_number(answer.found),
             found_slot: found_slot(answer.found),
@@ -177,8 +177,8 @@ impl ServedNumbers {
 }
 
 /// The number of an end.
-fn end_number(end: End) -> u8
-    ensures { result ≡ end_number end }
+fn end_code(end: End) -> u8
+    ensures { result ≡ end_code end }
 {
     match end {
         End::Eop => 0,
@@ -187,8 +187,8 @@ fn end_number(end: End) -> u8
 }
 
 /// The end of a number, if it is the number of one.
-pub fn end_of(number: u8) -> Option<End>
-    ensures { result ≡ end_of number }
+pub fn end_of_number(number: u8) -> Option<End>
+    ensures { result ≡ end_of_number number }
 {
     match number {
         0 => Some(End::Eop),
@@ -209,7 +209,7 @@ impl EntryNumbers {
             packet_length: entry.packet().bytes().len() as u32,
             port: entry.port(),
             status: entry.status().code(),
-            end: end_number(entry.packet().end()),
+            end: end_code(entry.packet().end()),
             unused: 0,
             unused_word: 0,
         }

@@ -6,7 +6,7 @@ ghost use Rattle.bpf.specs.Program.{image_bytes};
 ghost use Rattle.machine.specs.Sizes.{Maps};
 ghost use Rattle.scrub.specs.Guarded.{IsGuarded};
 ghost use Rattle.single_node_c.specs.Numbers.{maps_of};
-ghost use Rattle.single_node_c.specs.Opening.{AreMaps, IsAccepted, IsConfigFault, IsImageUnfit, IsMade, IsOpened, IsUnfit, IsUnopened, TellsFit, TellsOpening, is_config, unfit_of};
+ghost use Rattle.single_node_c.specs.Opening.{AreMaps, IsAccepted, IsConfigFault, IsImageUnfit, IsNodeMade, IsOpened, IsUnfit, IsUnopened, ReportsFit, ReportsOpening, is_config, unfit_of};
 ghost use Rattle.single_node_c.specs.declared.codes.TheConstants.{IS_OPEN, OK};
 ghost use Rattle.single_node_c.specs.declared.unfit.Unfit.TheVariants.{Config, Memory};
 
@@ -99,7 +99,7 @@ pub extern "C" fn sandbar_verify(
     image: &[u8],
     why: &mut Why,
 ) -> u32
-    ensures { TellsFit maps.now image.now result why.new }
+    ensures { ReportsFit maps.now image.now result why.new }
 {
     match accepted(alloc, maps, image) {
         Ok(_program) => {
@@ -166,7 +166,7 @@ fn made(
     image: &[u8],
 ) -> Result<Box<GuardedNode>, Unfit>
     ensures made { IfOk result
-        (λ node. IsMade address ports banks.now maps.now image.now node.value.node) }
+        (λ node. IsNodeMade address ports banks.now maps.now image.now node.value.node) }
     ensures sums { IfOk result (λ node. IsGuarded (Some 0) node.value.node node.value) }
     ensures fault { IfErr result (IsUnopened ports banks.now maps.now image.now) }
 {
@@ -188,8 +188,8 @@ pub extern "C" fn sandbar_open(
     why: &mut Why,
 ) -> u32
     ensures held { IfSome handle.old.kept (λ _. (result ≡ IS_OPEN) × (why.new ≡ why.old)) }
-    ensures told { handle.old.kept ≡ None
-        → TellsOpening address ports banks.now maps.now image.now handle.new.kept result why.new }
+    ensures reported { handle.old.kept ≡ None
+        → ReportsOpening address ports banks.now maps.now image.now handle.new.kept result why.new }
     ensures kept { result ≢ OK → handle.new.kept ≡ handle.old.kept }
 {
     if let Some(node) = take(alloc, handle) {

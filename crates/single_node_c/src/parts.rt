@@ -2,7 +2,7 @@
 
 ghost use Rattle.std.specs.Prelude.{◌≡◌};
 ghost use Rattle.rmap.specs.Command.{discard_of};
-ghost use Rattle.single_node_c.specs.Parts.{command_number, discard_in, parts_of, served_parts};
+ghost use Rattle.single_node_c.specs.Parts.{command_number, discard_in, command_parts_of, served_parts};
 
 use node_parts::{Served, Stop};
 use rmap::{Command, Kind};
@@ -42,8 +42,8 @@ fn command_number(kind: Kind) -> u8
 }
 
 /// What a command asks for.
-fn parts_of(command: &Command) -> ServedParts
-    ensures { result ≡ parts_of command.now }
+fn command_parts_of(command: &Command) -> ServedParts
+    ensures { result ≡ command_parts_of command.now }
 {
     ServedParts {
         command: command_number(command.kind()),
@@ -69,7 +69,7 @@ impl ServedParts {
             Served::Stopped(Stop::Answered(_))
             | Served::Unread
             | Served::Done(_)
-            | Served::Window(_) => parts_of(&Command::of_bytes(bytes, end)),
+            | Served::Window(_) => command_parts_of(&Command::of_bytes(bytes, end)),
         }
     }
 }

@@ -3,7 +3,7 @@
 ghost use Rattle.std.specs.Prelude.{◌≡◌, IfErr, IfSome, OnOk};
 ghost use Rattle.std.specs.declared.option.Option.TheVariants.{None};
 ghost use Rattle.single_node_c.specs.Held.{BecomesGuarded};
-ghost use Rattle.single_node_c.specs.Publishing.{AnswersPublish, IsUnpublished, Publishes, publish_code, publish_why};
+ghost use Rattle.single_node_c.specs.Publishing.{AnswersPublish, IsImageUnpublished, Publishes, publish_code, publish_why};
 ghost use Rattle.single_node_c.specs.declared.codes.TheConstants.{NO_NODE};
 
 use crate::codes::{BAD_SLOT, NO_GENERATION, NO_NODE, OK};
@@ -28,9 +28,9 @@ pub enum Unpublished {
 }
 
 impl From<PublishFault> for Unpublished {
-    ghost use Rattle.single_node_c.specs.Publishing.{fault_of};
+    ghost use Rattle.single_node_c.specs.Publishing.{publish_fault_of};
 
-    ghost from_gives = { λ fault unpublished. unpublished ≡ fault_of fault };
+    ghost from_gives = { λ fault unpublished. unpublished ≡ publish_fault_of fault };
 
     fn from(fault: PublishFault) -> Unpublished {
         match fault {
@@ -49,7 +49,7 @@ fn try_publish(
     image: &[u8],
 ) -> Result<(), Unpublished>
     ensures published { OnOk result (Publishes slot image.now None guarded.old guarded.new) }
-    ensures unpublished { IfErr result (λ fault. IsUnpublished slot image.now guarded.old fault) }
+    ensures unpublished { IfErr result (λ fault. IsImageUnpublished slot image.now guarded.old fault) }
     ensures same { IfErr result (λ _. guarded.new ≡ guarded.old) }
 {
     if slot > LAST_SLOT {

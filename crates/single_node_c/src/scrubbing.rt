@@ -3,7 +3,7 @@
 ghost use Rattle.std.specs.Prelude.{◌≡◌, ◌≢◌, ◌≤◌};
 ghost use Rattle.scrub.specs.Guarded.{SetsEach};
 ghost use Rattle.single_node_c.specs.Held.{BecomesGuarded, code_on};
-ghost use Rattle.single_node_c.specs.Scrubbing.{Restores, RestoresIf, ScrubsAll, ScrubsIf, ScrubsPart, asks, broken_if, is_short, is_unmended, is_window_short, mended_bit, mended_bits, place_number, restored_number, scrub_test, short_code, sizes_if, withdrawn_bit, withdrawn_bits};
+ghost use Rattle.single_node_c.specs.Scrubbing.{Restores, RestoresIf, ScrubsAllSlots, ScrubsIf, ScrubsPart, asks, broken_if, is_slot_short, is_unmended, is_window_short, mended_bit, mended_bits, place_number, restored_number, scrub_test, short_code, sizes_if, withdrawn_bit, withdrawn_bits};
 ghost use Rattle.single_node_c.specs.declared.codes.TheConstants.{OK};
 
 use crate::codes::{NO_MEMORY, NO_NODE, NO_PART, OK};
@@ -13,7 +13,7 @@ use crate::numbers::ScrubbedNumbers;
 use crate::opening::program_of;
 use crate::unfit::Unfit;
 use node_programs::PublishFault;
-use scrub::{Broken, GuardedNode, Health, Scrubbed};
+use scrub::{BrokenBits, GuardedNode, Health, Scrubbed};
 use std::alloc::Global;
 
 /// The slot of the program that judges commands to the boot window.
@@ -64,21 +64,21 @@ fn is_unmended(health: Health) -> bool
 }
 
 /// The bits of the slots whose programs were mended.
-fn mended_bits(told: Scrubbed) -> u8
-    ensures { result ≡ mended_bits told }
+fn mended_bits(reported: Scrubbed) -> u8
+    ensures { result ≡ mended_bits reported }
 {
-    let banks = mended_bit(told.reads, 1) + mended_bit(told.writes, 2) + mended_bit(told.rmws, 4);
-    banks + mended_bit(told.window, 8)
+    let banks = mended_bit(reported.reads, 1) + mended_bit(reported.writes, 2) + mended_bit(reported.rmws, 4);
+    banks + mended_bit(reported.window, 8)
 }
 
 /// The bits of the slots that are withdrawn.
-fn withdrawn_bits(told: Scrubbed) -> u8
-    ensures { result ≡ withdrawn_bits told }
+fn withdrawn_bits(reported: Scrubbed) -> u8
+    ensures { result ≡ withdrawn_bits reported }
 {
-    let banks = withdrawn_bit(told.reads, 1)
-        + withdrawn_bit(told.writes, 2)
-        + withdrawn_bit(told.rmws, 4);
-    banks + withdrawn_bit(told.window, 8)
+    let banks = withdrawn_bit(reported.reads, 1)
+        + withdrawn_bit(reported.writes, 2)
+        + withdrawn_bit(reported.rmws, 4);
+    banks + withdrawn_bit(reported.window, 8)
 }
 
 /// What became of the image that is lent for the slot of the boot window.
@@ -141,51 +141,51 @@ fn is_window_short(window: Health, restored: Restored) -> bool
 }
 
 /// Whether a slot is withdrawn because memory was refused.
-fn is_short(told: Scrubbed, restored: Restored) -> bool
-    ensures { result ≡ is_short told restored }
+fn is_slot_short(reported: Scrubbed, restored: Restored) -> bool
+    ensures { result ≡ is_slot_short reported restored }
 {
-    is_unmended(told.reads)
-        || is_unmended(told.writes)
-        || is_unmended(told.rmws)
-        || is_window_short(told.window, restored)
+    is_unmended(reported.reads)
+        || is_unmended(reported.writes)
+        || is_unmended(reported.rmws)
+        || is_window_short(reported.window, restored)
 }
 
 /// What a scrub found of the programs of a node. It has a bit a slot, and whether the slot of the boot window was given
 /// the program that was lent. It also has whether a slot is withdrawn because memory was refused.
 #[derive(Clone, Copy)]
-pub struct Programs {
+pub struct ProgramBits {
     mended: u8,
     withdrawn: u8,
     restored: u8,
-    is_short: bool,
+    is_slot_short: bool,
 }
 
 /// Scrubs the programs of a node, and publishes the program of an image for the slot of the boot window if that is withdrawn.
-fn scrub_programs(alloc: Global, guarded: &mut GuardedNode, image: &[u8]) -> Programs
-    ensures { ScrubsAll image.now result guarded.old guarded.new }
+fn scrub_programs(alloc: Global, guarded: &mut GuardedNode, image: &[u8]) -> ProgramBits
+    ensures { ScrubsAllSlots image.now result guarded.old guarded.new }
 {
-    let told = guarded.scrub(alloc, image);
-    let restored = restore_if(alloc, guarded, told.window, image);
-    Programs {
-        mended: mended_bits(told),
-        withdrawn: withdrawn_bits(told),
+    let reported = guarded.scrub(alloc, image);
+    let restored = restore_if(alloc, guarded, reported.window, image);
+    ProgramBits {
+        mended: mended_bits(reported),
+        withdrawn: withdrawn_bits(reported),
         restored: restored_number(restored),
-        is_short: is_short(told, restored),
+        is_slot_short: is_slot_short(reported, restored),
     }
 }
 
 /// The same if programs are asked for.
-fn scrub_if(alloc: Global, guarded: &mut GuardedNode, asked: bool, image: &[u8]) -> Programs
+fn scrub_if(alloc: Global, guarded: &mut GuardedNode, asked: bool, image: &[u8]) -> ProgramBits
     ensures { ScrubsIf asked image.now result guarded.old guarded.new }
 {
     if asked {
         return scrub_programs(alloc, guarded, image);
     }
-    Programs {
+    ProgramBits {
         mended: 0,
         withdrawn: 0,
         restored: 0,
-        is_short: false,
+        is_slot_short: false,
     }
 }
 
@@ -213,13 +213,13 @@ fn sizes_if(guarded: &GuardedNode, asked: bool) -> u8
 }
 
 /// Which entries are not whole, if journals are asked for.
-fn broken_if(guarded: &GuardedNode, asked: bool) -> Broken
+fn broken_if(guarded: &GuardedNode, asked: bool) -> BrokenBits
     ensures { result ≡ broken_if asked guarded.now }
 {
     if asked {
         return guarded.broken();
     }
-    Broken {
+    BrokenBits {
         banks: 0,
         first: None,
     }
@@ -243,10 +243,10 @@ fn asks(what: u8, part: u8) -> bool
 }
 
 /// The code of a scrub, by whether a slot is withdrawn because memory was refused.
-fn short_code(is_short: bool) -> u32
-    ensures { result ≡ short_code is_short }
+fn short_code(is_slot_short: bool) -> u32
+    ensures { result ≡ short_code is_slot_short }
 {
-    if is_short { NO_MEMORY } else { OK }
+    if is_slot_short { NO_MEMORY } else { OK }
 }
 
 /// Scrubs a part of a node, reports what it found, and gives a code.
@@ -272,7 +272,7 @@ fn scrub(
         unused: 0,
         unused_half: 0,
     };
-    short_code(programs.is_short)
+    short_code(programs.is_slot_short)
 }
 
 /// Compares a part of a node with what was kept of it, or all of these parts.

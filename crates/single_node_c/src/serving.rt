@@ -2,16 +2,16 @@
 
 ghost use Rattle.std.specs.Prelude.{◌≡◌, ◌≢◌, ◌<◌, ◌≤◌, IfOk, Some, length, slice_get};
 ghost use Rattle.rmap.specs.declared.reply.TheConstants.{MAX_REPLY};
-ghost use Rattle.single_node_c.specs.Held.{BecomesGuarded, IsCode, guarded_test};
-ghost use Rattle.single_node_c.specs.Numbers.{end_of};
-ghost use Rattle.single_node_c.specs.Serving.{ServesBytes, ServesPacket, room_behind, room_of, serve_test};
+ghost use Rattle.single_node_c.specs.Held.{BecomesGuarded, IsCallCode, guarded_test};
+ghost use Rattle.single_node_c.specs.Numbers.{end_of_number};
+ghost use Rattle.single_node_c.specs.Serving.{ServesBytes, ServesPacket, room_after_command, journal_room_of, serve_test};
 ghost use Rattle.single_node_c.specs.declared.codes.TheConstants.{OK};
 ghost use Rattle.spw.specs.declared.packets.TheConstants.{MAX_PACKET};
 
 use crate::codes::{BAD_END, DAMAGED, NO_MEMORY, NO_NODE, NO_PORT, NO_ROOM, OK, TOO_LONG};
 use crate::handle::Handle;
 use crate::held::{put, take};
-use crate::numbers::{ServedNumbers, end_of};
+use crate::numbers::{ServedNumbers, end_of_number};
 use crate::parts::ServedParts;
 use node_parts::Served;
 use rmap::MAX_REPLY;
@@ -39,22 +39,22 @@ fn packet_of(alloc: Global, bytes: &[u8], end: End) -> Result<Packet, AllocError
 }
 
 /// How many more entries the journal of the bank of that number has room for, if there is that bank.
-fn room_of(node: &SingleNode, number: u8) -> u32
-    ensures { result ≡ room_of (slice_get node.now.banks number) }
+fn journal_room_of(node: &SingleNode, number: u8) -> u32
+    ensures { result ≡ journal_room_of (slice_get node.now.banks number) }
 {
     if number >= node.banks() {
         return 0;
     }
-    node.bank(number).room_left()
+    node.bank(number).journal_room_left()
 }
 
 /// How many more entries the journal of the bank of that number has room for, after a command that ended there.
-fn room_behind(node: &SingleNode, served: Served, number: u8) -> u32
-    ensures { result ≡ room_behind served number node.now }
+fn room_after_command(node: &SingleNode, served: Served, number: u8) -> u32
+    ensures { result ≡ room_after_command served number node.now }
 {
     match served {
         Served::Stopped(_) | Served::Unread | Served::Window(_) => 0,
-        Served::Done(_) => room_of(node, number),
+        Served::Done(_) => journal_room_of(node, number),
     }
 }
 
@@ -74,9 +74,9 @@ fn serve_packet(
 {
     let end = packet.end();
     let answer = guarded.serve(alloc, port, packet, room);
-    let served = answer.told.served;
+    let served = answer.reported.served;
     let parts = ServedParts::of(served, bytes, end);
-    let left = room_behind(&guarded.node, served, parts.extended);
+    let left = room_after_command(&guarded.node, served, parts.extended);
     ServedNumbers::of(answer, parts, left, answer.size as u32)
 }
 
@@ -90,7 +90,7 @@ fn serve(
     room: &mut [u8],
     served: &mut ServedNumbers,
 ) -> u32
-    ensures code { IsCode
+    ensures code { IsCallCode
         (serve_test port (length bytes.now) end (length room.old) guarded.old) result }
     ensures served { result ≡ OK
         → ServesBytes port bytes.now end room.old room.new served.new guarded.old guarded.new }
@@ -104,7 +104,7 @@ fn serve(
     if port >= guarded.node.ports() {
         return NO_PORT;
     }
-    let Some(end) = end_of(end) else {
+    let Some(end) = end_of_number(end) else {
         return BAD_END;
     };
     if bytes.len() > MAX_PACKET {
@@ -131,7 +131,7 @@ pub extern "C" fn sandbar_serve(
     reply: &mut [u8],
     served: &mut ServedNumbers,
 ) -> u32
-    ensures code { IsCode (guarded_test handle.old.kept
+    ensures code { IsCallCode (guarded_test handle.old.kept
         (serve_test port (length packet.now) end (length reply.old))) result }
     ensures served { result ≡ OK
         → BecomesGuarded (ServesBytes port packet.now end reply.old reply.new served.new)

@@ -1,7 +1,7 @@
 //! Why an image may not judge, and why a node is not opened.
 
 ghost use Rattle.std.specs.Prelude.{◌≡◌};
-ghost use Rattle.single_node_c.specs.Opening.{code_of, no_why, why_of};
+ghost use Rattle.single_node_c.specs.Opening.{code_of_opening, no_why, why_of};
 
 use crate::codes::{BAD_CONFIG, BAD_IMAGE, BAD_MAPS, NO_MEMORY, REFUSED};
 use crate::numbers::Why;
@@ -33,7 +33,7 @@ pub fn no_why() -> Why
 impl Unfit {
     /// The code for it.
     pub fn code(self) -> u32
-        ensures { result ≡ code_of self }
+        ensures { result ≡ code_of_opening self }
     {
         match self {
             Unfit::Memory => NO_MEMORY,

@@ -3,7 +3,7 @@
 ghost use Rattle.std.specs.Prelude.{◌≡◌, ◌≢◌, Some};
 ghost use Rattle.plain_cells.specs.Words.{word_in};
 ghost use Rattle.single_node_c.specs.Held.{IfNode, code_on};
-ghost use Rattle.single_node_c.specs.Words.{TellsWord, word_code};
+ghost use Rattle.single_node_c.specs.Words.{ReportsWord, word_code};
 ghost use Rattle.single_node_c.specs.declared.codes.TheConstants.{OK};
 
 use crate::codes::{NO_CELL, NO_NODE, OK};
@@ -13,9 +13,9 @@ use single_node::SingleNode;
 use std::alloc::Global;
 
 /// Reports the word of a cell, if there is that cell, and gives a code.
-fn tell_word(node: &SingleNode, map: u8, cell: u16, word: &mut u64) -> u32
+fn report_word(node: &SingleNode, map: u8, cell: u16, word: &mut u64) -> u32
     ensures code { result ≡ word_code map cell node.now }
-    ensures told { result ≡ OK → TellsWord map cell word.new node.now }
+    ensures reported { result ≡ OK → ReportsWord map cell word.new node.now }
     ensures word { result ≢ OK → word.new ≡ word.old }
 {
     match node.word(map, cell) {
@@ -38,14 +38,14 @@ pub extern "C" fn sandbar_word(
     word: &mut u64,
 ) -> u32
     ensures code { result ≡ code_on handle.old.kept (word_code map cell) }
-    ensures told { result ≡ OK → IfNode handle.old.kept (TellsWord map cell word.new) }
+    ensures reported { result ≡ OK → IfNode handle.old.kept (ReportsWord map cell word.new) }
     ensures word { result ≢ OK → word.new ≡ word.old }
     ensures node { handle.new.kept ≡ handle.old.kept }
 {
     let Some(guarded) = take(alloc, handle) else {
         return NO_NODE;
     };
-    let code = tell_word(&guarded.node, map, cell, word);
+    let code = report_word(&guarded.node, map, cell, word);
     put(alloc, handle, guarded);
     code
 }

@@ -33,14 +33,14 @@ module _ (text bytes : List ℕ) (end : ℕ) (same : bytes ≡ text) (found : Fe
 
   -- a text is its first line, and the lines after its line feed
   pub line_cut : (line rest : List ℕ) → line ≡ slice_range text 0 end → rest ≡ drop (end + 1) text → lines_of text ≡ line ∷ lines_of rest
-  line_cut line rest front behind =
+  line_cut line rest front following =
       let whole : end - 0 ≡ end = omega arith in
       feed_cut end text feeds.0.high (λ i less. false_from_ne_true (get_or text i 0 == 10) (feeds.0.before i (omega arith) less)) feeds.1
-      ∙ ap₂ (λ (l r : List ℕ). l ∷ lines_of r) (sym (front ∙ ap (λ n. take n text) whole)) (sym behind)
+      ∙ ap₂ (λ (l r : List ℕ). l ∷ lines_of r) (sym (front ∙ ap (λ n. take n text) whole)) (sym following)
 
   -- the text can be cut after it
-  pub behind_feed : IsUtf8 text → IsCharBoundary text (end + 1)
-  behind_feed utf8 =
+  pub after_feed : IsUtf8 text → IsCharBoundary text (end + 1)
+  after_feed utf8 =
       let is = eqb-true (get_or text end 0) 10 feeds.1 in
       IsCharBoundary-after_ascii text end utf8 feeds.0.high (omega (arith, is))
 

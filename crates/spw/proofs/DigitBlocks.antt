@@ -78,15 +78,15 @@ blocks_and_rest (suc k) word fits =
     ∙ take-append-drop 32 word
 
 module _ (word rest : List ℕ) (blocks pairs : List (List ℕ)) (cut : blocks ≡ first_chunks 32 (length word / 32) word)
-    (behind : rest ≡ drop (length word / 32 * 32) word) (joined : concat pairs ≡ rest) (even : length word % 2 ≡ 0) where
+    (following : rest ≡ drop (length word / 32 * 32) word) (joined : concat pairs ≡ rest) (even : length word % 2 ≡ 0) where
   parts : concat blocks ++ concat pairs ≡ word
-  parts = ap (λ (b : List (List ℕ)). concat b ++ concat pairs) cut ∙ ap (λ (r : List ℕ). concat (first_chunks 32 (length word / 32) word) ++ r) (joined ∙ behind)
+  parts = ap (λ (b : List (List ℕ)). concat b ++ concat pairs) cut ∙ ap (λ (r : List ℕ). concat (first_chunks 32 (length word / 32) word) ++ r) (joined ∙ following)
       ∙ blocks_and_rest (length word / 32) word (omega arith)
 
   even_front : length (concat blocks) % 2 ≡ 0
   even_front =
       let all : length (concat blocks ++ concat pairs) ≡ length word = ap (λ (w : List ℕ). length w) parts in
-      let back : length (concat pairs) ≡ length (drop (length word / 32 * 32) word) = ap (λ (r : List ℕ). length r) (joined ∙ behind) in
+      let back : length (concat pairs) ≡ length (drop (length word / 32 * 32) word) = ap (λ (r : List ℕ). length r) (joined ∙ following) in
       omega (arith, all, back, even, length-append (concat blocks) (concat pairs), length-drop (length word / 32 * 32) word)
 
   pub front_is_hex : IsHex word → AllDigits 16 (concat blocks)

@@ -26,12 +26,12 @@ module _ (text bytes : List ℕ) (place : ℕ) (same : bytes ≡ text) (found : 
   code = eqb-true (get_or text place 0) 32 placed.1
 
   -- the text can be cut after the space
-  pub behind_space : IsUtf8 text → IsCharBoundary text (place + 1)
-  behind_space utf8 = IsCharBoundary-after_ascii text place utf8 placed.0 (omega (arith, code))
+  pub after_space : IsUtf8 text → IsCharBoundary text (place + 1)
+  after_space utf8 = IsCharBoundary-after_ascii text place utf8 placed.0 (omega (arith, code))
 
   -- it is cut there
-  pub space_cut : (before behind : List ℕ) → before ≡ slice_range text 0 place → behind ≡ drop (place + 1) text → IsCut text before behind
-  space_cut before behind front back =
+  pub space_cut : (before following : List ℕ) → before ≡ slice_range text 0 place → following ≡ drop (place + 1) text → IsCut text before following
+  space_cut before following front back =
       let whole : place - 0 ≡ place = omega arith in
       sym (take-append-drop place text)
       ∙ ap₂ (λ (xs ys : List ℕ). xs ++ ys) (sym (front ∙ ap (λ n. take n text) whole))
@@ -48,9 +48,9 @@ no_space_before text bytes place same found before front =
     none.before i (omega arith) less (rw (sym (get_or-take place text i 0 less) ∙ is) refl))
 
 -- the last space is found there: none is after it
-pub no_space_behind : (text bytes : List ℕ) (place : ℕ) → bytes ≡ text → NoneAfter (Passes (is_byte 32) bytes) 0 (length bytes) place
-    → (behind : List ℕ) → behind ≡ drop (place + 1) text → HasNoSpace behind
-no_space_behind text bytes place same found behind back =
+pub no_space_after : (text bytes : List ℕ) (place : ℕ) → bytes ≡ text → NoneAfter (Passes (is_byte 32) bytes) 0 (length bytes) place
+    → (following : List ℕ) → following ≡ drop (place + 1) text → HasNoSpace following
+no_space_after text bytes place same found following back =
     let none = subst (λ (t : List ℕ). NoneAfter (Passes (is_byte 32) t) 0 (length t) place) same found in
     subst HasNoSpace (sym back) (λ i below is.
     let less : place + 1 + i < length text = omega (arith, below, length-drop (place + 1) text) in

@@ -57,13 +57,13 @@ alone (code ∷ text) none empty = absurd (omega (arith, eqb-true _ _ empty))
 
 -- ---- the first word, where the first space stands behind it
 
-pub first_is : (text word behind : List ℕ) → text ≡ word ++ 32 ∷ behind → HasNoSpace word → eqb (length word) 0 ≡ false → words_of text ≡ word ∷ words_of behind
-first_is text word behind parts none some =
-    ap words_of parts ∙ words_at_space word behind ∙ ap (λ (words : List (List ℕ)). words ++ words_of behind) (word_alone word none some)
+pub first_is : (text word following : List ℕ) → text ≡ word ++ 32 ∷ following → HasNoSpace word → eqb (length word) 0 ≡ false → words_of text ≡ word ∷ words_of following
+first_is text word following parts none some =
+    ap words_of parts ∙ words_at_space word following ∙ ap (λ (words : List (List ℕ)). words ++ words_of following) (word_alone word none some)
 
-pub first_is_none : (text word behind : List ℕ) → text ≡ word ++ 32 ∷ behind → eqb (length word) 0 ≡ true → words_of text ≡ words_of behind
-first_is_none text [] behind parts empty = ap words_of parts
-first_is_none text (code ∷ word) behind parts empty = absurd (omega (arith, eqb-true _ _ empty))
+pub first_is_none : (text word following : List ℕ) → text ≡ word ++ 32 ∷ following → eqb (length word) 0 ≡ true → words_of text ≡ words_of following
+first_is_none text [] following parts empty = ap words_of parts
+first_is_none text (code ∷ word) following parts empty = absurd (omega (arith, eqb-true _ _ empty))
 
 -- ---- the last word, where the last space stands before it
 

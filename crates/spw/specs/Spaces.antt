@@ -6,5 +6,5 @@ abbrev pub HasNoSpace : List ℕ → Type 0
 HasNoSpace text = (i : ℕ) → i < length text → slice_index text i ≢ 32
 
 -- the text is what is before a space, the space, and what is after it
-abbrev pub IsCut : (text before behind : List ℕ) → Type 0
-IsCut text before behind = text ≡ before ++ 32 ∷ behind
+abbrev pub IsCut : (text before following : List ℕ) → Type 0
+IsCut text before following = text ≡ before ++ 32 ∷ following

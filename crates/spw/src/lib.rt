@@ -17,7 +17,7 @@ pub use crate::faults::LineFault;
 pub use crate::feed::{Feed, packet_is_join};
 pub use crate::lines::{PORTS, line_is_unambiguous, read_line, read_part, read_port, words_of};
 pub use crate::packets::{End, MAX_PACKET, Packet};
-pub use crate::paths::{FIRST_LOGICAL, behind_path};
+pub use crate::paths::{FIRST_LOGICAL, without_path};
 pub use crate::rooms::put_front;
 pub use crate::text::{TextLines, lines_of};
 pub use crate::words::first_word;

@@ -128,9 +128,9 @@ fn bytes_of(alloc: Global, text: &str) -> Result<Vec<u8>, LineFault>
     }
     bytes.clear();
     let mut rest = text;
-    while let Some((word, behind)) = first_word(rest) {
+    while let Some((word, following)) = first_word(rest) {
         append_word(&mut bytes, word)?;
-        rest = behind;
+        rest = following;
     }
     Ok(bytes)
 }

@@ -36,11 +36,11 @@ pub fn first_word(text: &str) -> Option<(&str, &str)>
         (λ r. words_of text.now ≡ r.0.now ∷ words_of r.1.now) }
 {
     let mut rest = text;
-    while let Some((word, behind)) = at_first_space(rest) {
+    while let Some((word, following)) = at_first_space(rest) {
         if !word.is_empty() {
-            return Some((word, behind));
+            return Some((word, following));
         }
-        rest = behind;
+        rest = following;
     }
     if rest.is_empty() {
         None

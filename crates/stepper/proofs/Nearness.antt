@@ -28,10 +28,10 @@ use Rattle.machine.specs.Memory.{Header}
 use Rattle.machine.specs.Sizes.{Maps}
 use Rattle.machine.specs.State.{State, register_after, register_after_call}
 use Rattle.stepper.specs.Deeds.{perform_with, outcome_of, registers_in}
-use Rattle.stepper.specs.declared.deeds.Deed.{Deed}
+use Rattle.stepper.specs.declared.deeds.InstructionEffect.{InstructionEffect}
 use Rattle.machine.specs.Step.{alu, moved_pointer, moved_value, copied_value, operand, number_result, Outcome, Next, Ask, Verdict, Trap, writes, lands, branches, compares, load_value, loads, puts, stores, map_at, argument_of, asks, calls_helper, calls, exits, perform, finds_maps}
 use Rattle.stepper.specs.Machine.{IsOutcome, state_with}
-use Rattle.stepper.specs.declared.outcomes.Outcome as outcomes
+use Rattle.stepper.specs.declared.outcomes.StepOutcome as outcomes
 use Rattle.machine.specs.Words.{holds_words}
 
 pub further : (limit by : ℕ) (v : Value) → IsNear limit v → IsNear (limit + by) v
@@ -260,7 +260,7 @@ module _ (limit : ℕ) (s : State) (all : AreAllNear limit s.registers) where
   perform_with_near sizes header insn =
       where_so (limit + 2 ^ 63) (finds_maps sizes s (Some insn)) _ (perform_near header insn)
 
-pub outcome_near : (limit : ℕ) (o : Outcome) (outcome : outcomes.Outcome) (before after : State) → IsOutcome o outcome before after → AreAllNear limit before.registers → GoesOnNear (limit + 2 ^ 63) o → AreAllNear (limit + 2 ^ 63) after.registers
+pub outcome_near : (limit : ℕ) (o : Outcome) (outcome : outcomes.StepOutcome) (before after : State) → IsOutcome o outcome before after → AreAllNear limit before.registers → GoesOnNear (limit + 2 ^ 63) o → AreAllNear (limit + 2 ^ 63) after.registers
 outcome_near limit (Next t) outcome before after h near goes k = rw h.1 (goes k)
 outcome_near limit (Ask question on) outcome before after h near goes k = rw h.1 (further limit (2 ^ 63) (before.registers k) (near k))
 outcome_near limit (Verdict verdict) outcome before after h near goes k = rw h.1 (further limit (2 ^ 63) (before.registers k) (near k))
@@ -273,7 +273,7 @@ near_along limit now f e h k =
     rw here (h k)
 
 -- one step more
-pub step_near : (steps : ℕ) (slot next : ℕ) (registers after : List Value) (stack bytes : List (Option ℕ)) (sizes : Maps) (header : Header) (insn : Insn) (deed : Deed) (outcome : outcomes.Outcome) → AreNear (2 ^ 63 * steps) registers → outcome_of (state_with slot registers stack) deed ≡ perform_with sizes header (state_with slot registers stack) insn → IsOutcome (outcome_of (state_with slot registers stack) deed) outcome (state_with slot registers stack) (state_with next after bytes) → AreNear (2 ^ 63 * (steps + 1)) after
+pub step_near : (steps : ℕ) (slot next : ℕ) (registers after : List Value) (stack bytes : List (Option ℕ)) (sizes : Maps) (header : Header) (insn : Insn) (deed : InstructionEffect) (outcome : outcomes.StepOutcome) → AreNear (2 ^ 63 * steps) registers → outcome_of (state_with slot registers stack) deed ≡ perform_with sizes header (state_with slot registers stack) insn → IsOutcome (outcome_of (state_with slot registers stack) deed) outcome (state_with slot registers stack) (state_with next after bytes) → AreNear (2 ^ 63 * (steps + 1)) after
 step_near steps slot next registers after stack bytes sizes header insn deed outcome near same done =
     let limit = 2 ^ 63 * steps in
     let before = state_with slot registers stack in

@@ -2,8 +2,8 @@
 use Rattle.std.specs.Prelude.{◌≡◌, ◌≢◌, ℕ, ◌≤◌, ◌<◌, List, ◌++◌, map}
 use Rattle.bpf.specs.Program.{Program}
 use Rattle.machine.specs.declared.calls.Call.{Call}
-use Rattle.stepper.specs.declared.endings.Ending.{Ending}
-use Rattle.stepper.specs.declared.endings.Ending.TheVariants as endings
+use Rattle.stepper.specs.declared.endings.RunEnd.{RunEnd}
+use Rattle.stepper.specs.declared.endings.RunEnd.TheVariants as endings
 use Rattle.machine.specs.Memory.{Header}
 use Rattle.machine.specs.Sizes.{Maps}
 use Rattle.machine.specs.State.{State, entry_state}
@@ -68,7 +68,7 @@ pub record WalkAsks (program : Program) (header : Header) (sizes : Maps) (port :
 -- how a walk of at most `limit` steps ends: by a verdict, a trap, a question without an answer, or the end of its
 -- steps
 abbrev pub IsEnding : (program : Program) (header : Header) (sizes : Maps) (port : ℕ) (answers : List ℕ) (limit : ℕ)
-    → Ending → Type 0
+    → RunEnd → Type 0
 IsEnding program header sizes port answers limit (endings.Verdict verdict) =
     WalkEnds program header sizes port answers limit verdict
 IsEnding program header sizes port answers limit endings.Trap = WalkTraps program header sizes port answers limit
@@ -76,6 +76,6 @@ IsEnding program header sizes port answers limit endings.Unanswered = WalkAsks p
 IsEnding program header sizes port answers limit endings.OutOfSteps = Walk program header sizes port answers limit
 
 -- how a walk from the machine's state ends; the machine is at the entry, and the port may be any
-abbrev pub EndsFrom : MachineValue → (answers : List ℕ) → (limit : ℕ) → Ending → Type 0
+abbrev pub EndsFrom : MachineValue → (answers : List ℕ) → (limit : ℕ) → RunEnd → Type 0
 EndsFrom m answers limit ending =
     (port : ℕ) → state_of m ≡ entry_state port → IsEnding m.program m.header m.sizes port answers limit ending

@@ -2,9 +2,9 @@
 use Rattle.std.specs.Prelude.{◌≡◌, ℕ, List, Option}
 use Rattle.bpf.specs.Program.{Program}
 use Rattle.machine.specs.declared.values.Value.{Value}
-use Rattle.stepper.specs.declared.deeds.Deed.{Deed}
-use Rattle.stepper.specs.declared.outcomes.Outcome as outcomes
-use Rattle.stepper.specs.declared.outcomes.Outcome.TheVariants as told
+use Rattle.stepper.specs.declared.deeds.InstructionEffect.{InstructionEffect}
+use Rattle.stepper.specs.declared.outcomes.StepOutcome as outcomes
+use Rattle.stepper.specs.declared.outcomes.StepOutcome.TheVariants as reported
 use Rattle.machine.specs.Memory.{Header, header as header_of}
 use Rattle.stepper.specs.Bytes.{bytes_in}
 use Rattle.stepper.specs.Deeds.{outcome_of, registers_in}
@@ -36,14 +36,14 @@ step_of m = step_with m.sizes m.program m.header (state_of m)
 
 -- What a machine reports of an outcome of the definition, and the state after it. If the outcome is not the next
 -- state, the state is as before.
-abbrev pub IsOutcome : Outcome → outcomes.Outcome → (before after : State) → Type 0
-IsOutcome (Next t) outcome before after = (outcome ≡ told.Next) × (after ≡ t)
-IsOutcome (Ask asked on) outcome before after = (outcome ≡ told.Ask asked) × (after ≡ before)
-IsOutcome (Verdict verdict) outcome before after = (outcome ≡ told.Verdict verdict) × (after ≡ before)
-IsOutcome Trap outcome before after = (outcome ≡ told.Trap) × (after ≡ before)
+abbrev pub IsOutcome : Outcome → outcomes.StepOutcome → (before after : State) → Type 0
+IsOutcome (Next t) outcome before after = (outcome ≡ reported.Next) × (after ≡ t)
+IsOutcome (Ask asked on) outcome before after = (outcome ≡ reported.Ask asked) × (after ≡ before)
+IsOutcome (Verdict verdict) outcome before after = (outcome ≡ reported.Verdict verdict) × (after ≡ before)
+IsOutcome Trap outcome before after = (outcome ≡ reported.Trap) × (after ≡ before)
 
 -- what a machine reports of a deed that was done
-abbrev pub IsOutcomeOf : Deed → outcomes.Outcome → (before after : State) → Type 0
+abbrev pub IsOutcomeOf : InstructionEffect → outcomes.StepOutcome → (before after : State) → Type 0
 IsOutcomeOf deed outcome before after = IsOutcome (outcome_of before deed) outcome before after
 
 -- whether an outcome is a helper's question

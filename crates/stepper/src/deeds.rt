@@ -2,7 +2,7 @@
 
 ghost use Rattle.std.specs.Prelude.{◌≡◌, ◌^◌, ◌<◌, ◌≤◌, ◌<ℤ◌, pos, slice_index, slice_index_or, IfSome, ◌+◌, if◌then◌else◌, nat_lt, Some};
 ghost use Rattle.bpf.specs.declared.header.TheConstants.{MAX_SLOTS};
-ghost use Rattle.stepper.specs.Bytes.{header_in};
+ghost use Rattle.stepper.specs.Bytes.{lent_header};
 ghost use Rattle.stepper.specs.Near.{IsNear, AreNear};
 ghost use Rattle.stepper.specs.Deeds.{state_in, outcome_in, Does, DoesWith, IsPlaced, Writes, stored_at, asks_of, asks_with, calls_with};
 ghost use Rattle.machine.specs.Sizes.{kind_of_map};
@@ -22,7 +22,7 @@ use machine::{
 
 /// What an instruction does.
 #[derive(Clone, Copy)]
-pub enum Deed {
+pub enum InstructionEffect {
     /// Writes the register; the next instruction is `slots` slots further.
     Write {
         register: Register,
@@ -47,14 +47,14 @@ pub enum Deed {
 
 /// What an instruction sees: its own slot, the registers and the memory.
 #[derive(Clone, Copy)]
-pub struct Frame<'a> {
+pub struct MachineView<'a> {
     pub slot: u32,
     pub registers: &'a [Value; REGISTERS],
     pub memory: Memory<'a>,
 }
 
 /// What the register of this number holds.
-fn value_at(frame: Frame<'_>, number: u8) -> Value
+fn value_at(frame: MachineView<'_>, number: u8) -> Value
     requires { number ≤ 10 }
     ensures { result ≡ slice_index_or frame.entry.registers.now number Value.Unset }
 {
@@ -63,14 +63,14 @@ fn value_at(frame: Frame<'_>, number: u8) -> Value
 }
 
 /// What the register of an instruction holds.
-fn value_of(frame: Frame<'_>, register: Register) -> Value
+fn value_of(frame: MachineView<'_>, register: Register) -> Value
     ensures { result ≡ slice_index_or frame.entry.registers.now register Value.Unset }
 {
     value_at(frame, register.number())
 }
 
 /// A register's value, or the immediate.
-fn operand(frame: Frame<'_>, src: &Operand) -> Value
+fn operand(frame: MachineView<'_>, src: &Operand) -> Value
     ensures { result ≡ operand (state_in frame.entry) src.now }
 {
     match src {
@@ -80,18 +80,18 @@ fn operand(frame: Frame<'_>, src: &Operand) -> Value
 }
 
 /// The write of a register. It is a trap if there is no value, or if the register is r10.
-fn write(frame: Frame<'_>, register: Register, value: Option<Value>, slots: u32) -> Deed
+fn write(frame: MachineView<'_>, register: Register, value: Option<Value>, slots: u32) -> InstructionEffect
     requires { slots ≤ 2 }
     ensures outcome { Writes frame.entry register value slots result }
     ensures placed { IsPlaced result }
 {
     match value {
-        None => Deed::Trap,
+        None => InstructionEffect::Trap,
         Some(value) => {
             if register.number() == FRAME_POINTER {
-                Deed::Trap
+                InstructionEffect::Trap
             } else {
-                Deed::Write {
+                InstructionEffect::Write {
                     register,
                     value,
                     slots,
@@ -102,7 +102,7 @@ fn write(frame: Frame<'_>, register: Register, value: Option<Value>, slots: u32)
 }
 
 /// An operation on a register and a source.
-fn calculate(frame: Frame<'_>, op: AluOp, width: Width, dst: Register, src: &Operand) -> Deed
+fn calculate(frame: MachineView<'_>, op: AluOp, width: Width, dst: Register, src: &Operand) -> InstructionEffect
     requires { AreNear (2 ^ 126) frame.registers.now }
     ensures outcome { Does frame.entry (Insn.Alu op width dst src.now) result }
     ensures placed { IsPlaced result }
@@ -112,7 +112,7 @@ fn calculate(frame: Frame<'_>, op: AluOp, width: Width, dst: Register, src: &Ope
 }
 
 /// END: the bytes of a register in another order.
-fn reorder(frame: Frame<'_>, swap: Swap, bits: SwapBits, dst: Register) -> Deed
+fn reorder(frame: MachineView<'_>, swap: Swap, bits: SwapBits, dst: Register) -> InstructionEffect
     ensures outcome { Does frame.entry (Insn.ByteSwap swap bits dst) result }
     ensures placed { IsPlaced result }
 {
@@ -120,20 +120,20 @@ fn reorder(frame: Frame<'_>, swap: Swap, bits: SwapBits, dst: Register) -> Deed
 }
 
 /// The next instruction is at the target. It is a trap if that is before the code.
-fn land(frame: Frame<'_>, target: i64) -> Deed
+fn land(frame: MachineView<'_>, target: i64) -> InstructionEffect
     requires { target <ℤ pos (2 ^ 32) }
     ensures outcome { outcome_in frame.entry result ≡ lands (state_in frame.entry) target }
     ensures placed { IsPlaced result }
 {
     if target < 0 {
-        Deed::Trap
+        InstructionEffect::Trap
     } else {
-        Deed::Go(target as u32)
+        InstructionEffect::Go(target as u32)
     }
 }
 
 /// A jump by this distance in slots from the next one.
-fn jump(frame: Frame<'_>, offset: i32) -> Deed
+fn jump(frame: MachineView<'_>, offset: i32) -> InstructionEffect
     requires { frame.slot < MAX_SLOTS }
     ensures outcome { outcome_in frame.entry result ≡ jumps (state_in frame.entry) offset }
     ensures placed { IsPlaced result }
@@ -142,7 +142,7 @@ fn jump(frame: Frame<'_>, offset: i32) -> Deed
 }
 
 /// A jump if the condition holds of a register and a source, which must be numbers.
-fn compare(frame: Frame<'_>, comparison: &Comparison, offset: i16) -> Deed
+fn compare(frame: MachineView<'_>, comparison: &Comparison, offset: i16) -> InstructionEffect
     requires { frame.slot < MAX_SLOTS }
     ensures outcome { Does frame.entry (Insn.Jump comparison.now offset) result }
     ensures placed { IsPlaced result }
@@ -153,20 +153,20 @@ fn compare(frame: Frame<'_>, comparison: &Comparison, offset: i16) -> Deed
                 if holds_words(comparison.condition, comparison.width, a, b) {
                     jump(frame, i32::from(offset))
                 } else {
-                    Deed::Go(frame.slot + 1)
+                    InstructionEffect::Go(frame.slot + 1)
                 }
             }
-            Value::Unset | Value::Ptr { .. } | Value::Map(_) => Deed::Trap,
+            Value::Unset | Value::Ptr { .. } | Value::Map(_) => InstructionEffect::Trap,
         },
-        Value::Unset | Value::Ptr { .. } | Value::Map(_) => Deed::Trap,
+        Value::Unset | Value::Ptr { .. } | Value::Map(_) => InstructionEffect::Trap,
     }
 }
 
 /// A load through a pointer. `None` is a trap.
-fn load(frame: Frame<'_>, size: LoadSize, base: Value, offset: i16) -> Option<Value>
+fn load(frame: MachineView<'_>, size: LoadSize, base: Value, offset: i16) -> Option<Value>
     requires { IsNear (2 ^ 126) base }
     ensures { result
-        ≡ loads (header_in frame.entry.memory) (state_in frame.entry) size base offset }
+        ≡ loads (lent_header frame.entry.memory) (state_in frame.entry) size base offset }
 {
     match base {
         Value::Ptr {
@@ -186,7 +186,7 @@ fn load(frame: Frame<'_>, size: LoadSize, base: Value, offset: i16) -> Option<Va
 }
 
 /// A load into a register, through the pointer in another.
-fn load_into(frame: Frame<'_>, size: LoadSize, dst: Register, place: &MemoryOperand) -> Deed
+fn load_into(frame: MachineView<'_>, size: LoadSize, dst: Register, place: &MemoryOperand) -> InstructionEffect
     requires { AreNear (2 ^ 126) frame.registers.now }
     ensures outcome { Does frame.entry (Insn.Load size dst place.now) result }
     ensures placed { IsPlaced result }
@@ -213,7 +213,7 @@ pub fn stored_at(base: Value, bytes: usize, distance: i16) -> Option<usize>
 }
 
 /// A store of a number through a register's pointer into the stack.
-fn store(frame: Frame<'_>, size: Size, place: &MemoryOperand, src: &Operand) -> Deed
+fn store(frame: MachineView<'_>, size: Size, place: &MemoryOperand, src: &Operand) -> InstructionEffect
     requires { AreNear (2 ^ 126) frame.registers.now }
     ensures outcome { Does frame.entry (Insn.Store size place.now src.now) result }
     ensures placed { IsPlaced result }
@@ -221,14 +221,14 @@ fn store(frame: Frame<'_>, size: Size, place: &MemoryOperand, src: &Operand) -> 
     let bytes = size.bytes();
     match stored_at(value_of(frame, place.base), bytes, place.offset) {
         Some(place) => match number(operand(frame, src)) {
-            Some(number) => Deed::Put {
+            Some(number) => InstructionEffect::Put {
                 place,
                 bytes,
                 number,
             },
-            None => Deed::Trap,
+            None => InstructionEffect::Trap,
         },
-        None => Deed::Trap,
+        None => InstructionEffect::Trap,
     }
 }
 
@@ -277,7 +277,7 @@ fn takes_map(sizes: &MapSizes, helper: Helper, map: u8) -> bool
 }
 
 /// The argument of a helper: a number in r3, if it takes one. The others have 0.
-fn argument(frame: Frame<'_>, helper: Helper) -> Option<u64>
+fn argument(frame: MachineView<'_>, helper: Helper) -> Option<u64>
     ensures { result
         ≡ argument_of helper (slice_index_or frame.entry.registers.now 3 Value.Unset) }
 {
@@ -289,27 +289,27 @@ fn argument(frame: Frame<'_>, helper: Helper) -> Option<u64>
 }
 
 /// The question of a helper for a key that the map has.
-fn question(frame: Frame<'_>, sizes: &MapSizes, helper: Helper, map: u8, key: u16) -> Deed
+fn question(frame: MachineView<'_>, sizes: &MapSizes, helper: Helper, map: u8, key: u16) -> InstructionEffect
     ensures outcome { outcome_in frame.entry result
         ≡ asks_of sizes.now (state_in frame.entry) helper map key }
     ensures placed { IsPlaced result }
 {
     if !takes_map(sizes, helper, map) {
-        return Deed::Trap;
+        return InstructionEffect::Trap;
     }
     match argument(frame, helper) {
-        Some(argument) => Deed::Ask(Question {
+        Some(argument) => InstructionEffect::Ask(Question {
             helper,
             map,
             key,
             argument,
         }),
-        None => Deed::Trap,
+        None => InstructionEffect::Trap,
     }
 }
 
 /// The question of a helper: r1 is a map of which it may be asked, r2 a key below its size.
-fn ask(frame: Frame<'_>, sizes: &MapSizes, helper: Helper) -> Deed
+fn ask(frame: MachineView<'_>, sizes: &MapSizes, helper: Helper) -> InstructionEffect
     ensures outcome { outcome_in frame.entry result
         ≡ asks_with sizes.now (state_in frame.entry) helper }
     ensures placed { IsPlaced result }
@@ -318,16 +318,16 @@ fn ask(frame: Frame<'_>, sizes: &MapSizes, helper: Helper) -> Deed
         Value::Map(map) => match value_at(frame, 2) {
             Value::Num(key) => match key_in(sizes, map, key) {
                 Some(key) => question(frame, sizes, helper, map, key),
-                None => Deed::Trap,
+                None => InstructionEffect::Trap,
             },
-            Value::Unset | Value::Ptr { .. } | Value::Map(_) => Deed::Trap,
+            Value::Unset | Value::Ptr { .. } | Value::Map(_) => InstructionEffect::Trap,
         },
-        Value::Unset | Value::Num(_) | Value::Ptr { .. } => Deed::Trap,
+        Value::Unset | Value::Num(_) | Value::Ptr { .. } => InstructionEffect::Trap,
     }
 }
 
 /// A call.
-fn call(frame: Frame<'_>, sizes: &MapSizes, callee: Callee, number: i32) -> Deed
+fn call(frame: MachineView<'_>, sizes: &MapSizes, callee: Callee, number: i32) -> InstructionEffect
     ensures outcome { outcome_in frame.entry result
         ≡ calls_with sizes.now (state_in frame.entry) callee number }
     ensures placed { IsPlaced result }
@@ -335,25 +335,25 @@ fn call(frame: Frame<'_>, sizes: &MapSizes, callee: Callee, number: i32) -> Deed
     match callee {
         Callee::Helper => match Helper::of_number(number) {
             Some(helper) => ask(frame, sizes, helper),
-            None => Deed::Trap,
+            None => InstructionEffect::Trap,
         },
-        Callee::Local | Callee::ByTypeId => Deed::Trap,
+        Callee::Local | Callee::ByTypeId => InstructionEffect::Trap,
     }
 }
 
 /// EXIT: r0 is the verdict.
-fn exit(frame: Frame<'_>) -> Deed
+fn exit(frame: MachineView<'_>) -> InstructionEffect
     ensures outcome { Does frame.entry Insn.Exit result }
     ensures placed { IsPlaced result }
 {
     match value_at(frame, 0) {
-        Value::Num(verdict) => Deed::Verdict(verdict),
-        Value::Unset | Value::Ptr { .. } | Value::Map(_) => Deed::Trap,
+        Value::Num(verdict) => InstructionEffect::Verdict(verdict),
+        Value::Unset | Value::Ptr { .. } | Value::Map(_) => InstructionEffect::Trap,
     }
 }
 
 /// What an instruction does, with maps of these sizes.
-pub fn perform(frame: Frame<'_>, sizes: &MapSizes, insn: &Insn) -> Deed
+pub fn perform(frame: MachineView<'_>, sizes: &MapSizes, insn: &Insn) -> InstructionEffect
     requires inside { frame.slot < MAX_SLOTS }
     requires near { AreNear (2 ^ 126) frame.registers.now }
     ensures outcome { DoesWith sizes.now frame.entry insn.now result }
@@ -379,7 +379,7 @@ pub fn perform(frame: Frame<'_>, sizes: &MapSizes, insn: &Insn) -> Deed
         Insn::Goto { distance } => jump(frame, distance.slots()),
         Insn::Wide { dst, value } => write(frame, dst, Some(Value::Num(value)), 2),
         Insn::LoadMap { dst, index } => write(frame, dst, map_at(sizes, index), 2),
-        Insn::LoadAddress { .. } => Deed::Trap,
+        Insn::LoadAddress { .. } => InstructionEffect::Trap,
         Insn::Call { callee, number } => call(frame, sizes, callee, number),
         Insn::Exit => exit(frame),
     }

@@ -5,13 +5,13 @@ ghost use Rattle.machine.specs.Memory.{header as header_of};
 ghost use Rattle.stepper.specs.Endings.{EndsFrom, IsEnding};
 
 use crate::machines::Machine;
-use crate::outcomes::Outcome;
+use crate::outcomes::StepOutcome;
 use bpf::Image;
 use machine::{MapSizes, questions_go_on};
 
 /// How a run ended.
 #[derive(Clone, Copy, Debug, PartialEq, Eq)]
-pub enum Ending {
+pub enum RunEnd {
     /// The program ended with this verdict.
     Verdict(u64),
     /// A trap.
@@ -23,7 +23,7 @@ pub enum Ending {
 }
 
 /// Goes on from the entry of a program for at most `limit` steps.
-fn walk(mut machine: Machine<'_>, answers: &[u64], limit: u32) -> Ending
+fn walk(mut machine: Machine<'_>, answers: &[u64], limit: u32) -> RunEnd
     requires { machine.steps ≡ 0 }
     ensures { EndsFrom machine.entry answers.now limit result }
 {
@@ -31,19 +31,19 @@ fn walk(mut machine: Machine<'_>, answers: &[u64], limit: u32) -> Ending
     let mut left = answers;
     for _step in 0..limit {
         match machine.step() {
-            Outcome::Next => {}
-            Outcome::Ask(_) => {
+            StepOutcome::Next => {}
+            StepOutcome::Ask(_) => {
                 let Some((answer, rest)) = left.split_first() else {
-                    return Ending::Unanswered;
+                    return RunEnd::Unanswered;
                 };
                 machine.answer(*answer);
                 left = rest;
             }
-            Outcome::Verdict(verdict) => return Ending::Verdict(verdict),
-            Outcome::Trap => return Ending::Trap,
+            StepOutcome::Verdict(verdict) => return RunEnd::Verdict(verdict),
+            StepOutcome::Trap => return RunEnd::Trap,
         }
     }
-    Ending::OutOfSteps
+    RunEnd::OutOfSteps
 }
 
 /// Runs a program on a command's header and a port, with maps of these sizes. It makes at most `limit` steps, of
@@ -56,7 +56,7 @@ pub fn run(
     port: u8,
     answers: &[u64],
     limit: u32,
-) -> Ending
+) -> RunEnd
     ensures { IsEnding image.now (header_of front.now tail.now) sizes.now port answers.now limit
         result }
 {

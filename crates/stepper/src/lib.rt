@@ -12,6 +12,6 @@ mod machines;
 mod memory;
 mod outcomes;
 
-pub use endings::{Ending, run};
+pub use endings::{RunEnd, run};
 pub use machines::Machine;
-pub use outcomes::Outcome;
+pub use outcomes::StepOutcome;

@@ -13,9 +13,9 @@ ghost use Rattle.machine.specs.Helpers.{helper_of};
 ghost use Rattle.machine.specs.Step.{insn_at, after_answer, knows_flow, knows_helper, operand};
 ghost use Rattle.stepper.specs.Machine.{state_of, step_of, IsOutcome, IsAsk, IsRunOf, IsSameRun};
 
-use crate::deeds::{Frame, perform, stored_at};
+use crate::deeds::{MachineView, perform, stored_at};
 use crate::memory::Memory;
-use crate::outcomes::{Outcome, apply};
+use crate::outcomes::{StepOutcome, apply};
 use bpf::{Image, Version};
 use bpf_insn::{
     Callee, FRAME_POINTER, Flow, Insn, MemoryOperand, Operand, REGISTERS, Register, Size,
@@ -187,9 +187,9 @@ impl<'a> Machine<'a> {
         stored_at(base, size.bytes(), place.offset)
     }
 
-    /// Makes a step: what the instruction at the machine's slot does. If the outcome is not `Outcome::Next`, the
+    /// Makes a step: what the instruction at the machine's slot does. If the outcome is not `StepOutcome::Next`, the
     /// registers and the stack stay as before.
-    pub fn step(&mut self) -> Outcome
+    pub fn step(&mut self) -> StepOutcome
         requires { self.old.steps + 1 < 2 ^ 32 }
         ensures outcome { IsOutcome (step_of self.old) result (state_of self.old) (state_of self.new) }
         ensures run { IsSameRun self.old self.new }
@@ -198,10 +198,10 @@ impl<'a> Machine<'a> {
         steps_perform();
         self.steps += 1;
         let Some(insn) = fetch(self.image, self.slot) else {
-            return Outcome::Trap;
+            return StepOutcome::Trap;
         };
         if !is_known(self.image.version(), &insn) {
-            return Outcome::Trap;
+            return StepOutcome::Trap;
         }
         let deed = {
             let memory = Memory {
@@ -209,7 +209,7 @@ impl<'a> Machine<'a> {
                 tail: self.tail,
                 stack: &self.stack,
             };
-            let frame = Frame {
+            let frame = MachineView {
                 slot: self.slot,
                 registers: &self.registers,
                 memory,

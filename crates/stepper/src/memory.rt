@@ -2,7 +2,7 @@
 
 ghost use Rattle.std.specs.Prelude.{◌≡◌, ◌+◌, ◌*◌, ◌^◌, ◌<◌, ◌≤◌, IfSome, unsigned_abs};
 ghost use Rattle.machine.specs.declared.regions.TheConstants.{STACK_SIZE};
-ghost use Rattle.machine.specs.Memory.{place_of, little_endian};
+ghost use Rattle.machine.specs.Memory.{region_place_of, little_endian};
 ghost use Rattle.stepper.specs.Bytes.{byte_seen, number_seen};
 
 use machine::{Region, STACK_SIZE};
@@ -20,7 +20,7 @@ pub struct Memory<'a> {
 pub fn place_of(region: Region, bytes: usize, offset: i128) -> Option<usize>
     requires few { bytes ≤ 8 }
     requires near { unsigned_abs offset ≤ 2 ^ 126 + 2 ^ 15 }
-    ensures value { result ≡ place_of region bytes offset }
+    ensures value { result ≡ region_place_of region bytes offset }
     ensures within { IfSome result (λ place. place + bytes ≤ STACK_SIZE) }
 {
     let place = match region {

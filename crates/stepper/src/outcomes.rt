@@ -8,13 +8,13 @@ ghost use Rattle.machine.specs.Memory.{byte_after};
 ghost use Rattle.stepper.specs.Deeds.{IsPlaced};
 ghost use Rattle.stepper.specs.Machine.{state_with, IsOutcomeOf};
 
-use crate::deeds::Deed;
+use crate::deeds::InstructionEffect;
 use bpf_insn::REGISTERS;
 use machine::{Question, STACK_SIZE, Value};
 
 /// The outcome of one step of a machine.
 #[derive(Clone, Copy, Debug, PartialEq, Eq)]
-pub enum Outcome {
+pub enum StepOutcome {
     /// The machine is at its next instruction.
     Next,
     /// A helper asks; `Machine::answer` goes on.
@@ -42,38 +42,38 @@ pub fn apply(
     slot: &mut u32,
     registers: &mut [Value; REGISTERS],
     stack: &mut [Option<u8>; STACK_SIZE],
-    deed: Deed,
-) -> Outcome
+    deed: InstructionEffect,
+) -> StepOutcome
     requires inside { slot.old < MAX_SLOTS }
     requires placed { IsPlaced deed }
     ensures { IsOutcomeOf deed result (state_with slot.old registers.old stack.old)
         (state_with slot.new registers.new stack.new) }
 {
     match deed {
-        Deed::Write {
+        InstructionEffect::Write {
             register,
             value,
             slots,
         } => {
             registers[usize::from(register.number())] = value;
             *slot += slots;
-            Outcome::Next
+            StepOutcome::Next
         }
-        Deed::Put {
+        InstructionEffect::Put {
             place,
             bytes,
             number,
         } => {
             put(stack, place, bytes, number);
             *slot += 1;
-            Outcome::Next
+            StepOutcome::Next
         }
-        Deed::Go(target) => {
+        InstructionEffect::Go(target) => {
             *slot = target;
-            Outcome::Next
+            StepOutcome::Next
         }
-        Deed::Ask(asked) => Outcome::Ask(asked),
-        Deed::Verdict(verdict) => Outcome::Verdict(verdict),
-        Deed::Trap => Outcome::Trap,
+        InstructionEffect::Ask(asked) => StepOutcome::Ask(asked),
+        InstructionEffect::Verdict(verdict) => StepOutcome::Verdict(verdict),
+        InstructionEffect::Trap => StepOutcome::Trap,
     }
 }

@@ -14,10 +14,10 @@ use Rattle.node_parts.specs.Applied.{share_of, with_share, IsFinished}
 use Rattle.annals.specs.declared.deed.Act.TheVariants.{Leaves}
 use Rattle.annals.specs.declared.deed.Link.{Link}
 use Rattle.annals.specs.Chains.{LineValue, line_with}
-use Rattle.annals.specs.Banks.{KeptValue, IsAppliedTo, IsDone, IsRefusedAt, takes}
+use Rattle.annals.specs.Banks.{KeptValue, IsAppliedTo, IsDoneAtBank, IsRefusedAt, takes}
 use Rattle.annals.specs.Publishes.{PublishesGrow, publishes_of}
 use Rattle.node_programs.specs.declared.publishes.Publish.{Publish}
-use Rattle.target.specs.Finished.{AsksForEntry, IsDoneBehind, IsFinishedAt}
+use Rattle.target.specs.Finished.{AsksForEntry, IsDoneAfter, IsFinishedAt}
 use Rattle.lemmas.proofs.Prefixes.{prefix_trans}
 
 -- a command that a bank takes fits it
@@ -38,7 +38,7 @@ lent h k from place first at same below read =
 pub finished_at : (old new : KeptValue) (known reached : List Link) (h : PassValue) (k from : ℕ) (first share : ShareValue) (j : JudgedValue) (result : Applied) (reply : List ℕ) → j.place ≡ Bank k → from ≡ k → IsBankBelow j.place (length h.shares) → first ≡ get_or h.shares from first
     → (takes old first j ≡ true → IsAppliedTo old.bank new.bank first share j result reply)
     → (takes old first j ≡ false → IsRefusedAt old new first share j result reply)
-    → IfSome result.number (λ n. IsDoneBehind h.programs old.chain.number known reached first j result reply)
+    → IfSome result.number (λ n. IsDoneAfter h.programs old.chain.number known reached first j result reply)
     → IfNone result.number (reached ≡ known)
     → IsFinishedAt old new known reached h (record h { shares = set h.shares from share }) j result reply
 finished_at old new known reached h k from first share j result reply at same below read applied refused done none =
@@ -47,7 +47,7 @@ finished_at old new known reached h k from first share j result reply at same be
       shares = ap (λ i. record h { shares = set h.shares i share }) same ∙ sym (ap (λ p. with_share h p share) at);
       applied = λ took. subst (λ s. IsAppliedTo old.bank new.bank s share j result reply) (sym is) (applied (subst (λ s. takes old s j ≡ true) is took));
       refused = λ left. subst (λ s. IsRefusedAt old new s share j result reply) (sym is) (refused (subst (λ s. takes old s j ≡ false) is left));
-      done = subst (λ s. IfSome result.number (λ n. IsDoneBehind h.programs old.chain.number known reached s j result reply)) (sym is) done;
+      done = subst (λ s. IfSome result.number (λ n. IsDoneAfter h.programs old.chain.number known reached s j result reply)) (sym is) done;
       none = none;
     }
 
@@ -57,14 +57,14 @@ pub asked_at : (bank : ℕ) (h : PassValue) (k from : ℕ) (first : ShareValue) 
     → AsksForEntry bank h j result line.asked after.asked
 asked_at bank h k from first j result line after at same below read asked unasked =
     let is : share_of h j.place ≡ first = lent h k from j.place first at same below read in record {
-      entry = told result.number (subst (λ s. IfSome result.number (λ n. after ≡ line_with line bank (Leaves (entry_of s j result.status)))) (sym is) asked);
+      entry = reported result.number (subst (λ s. IfSome result.number (λ n. after ≡ line_with line bank (Leaves (entry_of s j result.status)))) (sym is) asked);
       nothing = none result.number unasked;
     }
   where
-    told : (number : Option ℕ) → IfSome number (λ n. after ≡ line_with line bank (Leaves (entry_of (share_of h j.place) j result.status)))
+    reported : (number : Option ℕ) → IfSome number (λ n. after ≡ line_with line bank (Leaves (entry_of (share_of h j.place) j result.status)))
         → IfSome number (λ n. after.asked ≡ (line_with line bank (Leaves (entry_of (share_of h j.place) j result.status))).asked)
-    told None is = tt
-    told (Some n) is = ap (λ (l : LineValue). l.asked) is
+    reported None is = tt
+    reported (Some n) is = ap (λ (l : LineValue). l.asked) is
 
     none : (number : Option ℕ) → IfNone number (after ≡ line) → IfNone number (after.asked ≡ line.asked)
     none None is = ap (λ (l : LineValue). l.asked) is
@@ -72,21 +72,21 @@ asked_at bank h k from first j result line after at same below read asked unaske
 
 -- A command that was done after what the port had learnt was done after what it knew. It was done after the publishes
 -- that it had learnt, too.
-pub done_behind : (number : Option ℕ) (programs : List Publish) (bank : ℕ) (known told reached front : List Link) (share : ShareValue) (j : JudgedValue) (result : Applied) (reply : List ℕ)
-    → PublishesGrow → IsPrefix known told → IsPrefix programs (publishes_of told)
-    → IfSome number (λ n. front ≡ reached) → IfSome number (λ n. IsDone bank told reached share j result reply)
-    → IfSome number (λ n. IsDoneBehind programs bank known front share j result reply)
-done_behind None programs bank known told reached front share j result reply grow more telling is done = tt
-done_behind (Some n) programs bank known told reached front share j result reply grow more telling is done =
+pub done_after : (number : Option ℕ) (programs : List Publish) (bank : ℕ) (known reported reached front : List Link) (share : ShareValue) (j : JudgedValue) (result : Applied) (reply : List ℕ)
+    → PublishesGrow → IsPrefix known reported → IsPrefix programs (publishes_of reported)
+    → IfSome number (λ n. front ≡ reached) → IfSome number (λ n. IsDoneAtBank bank reported reached share j result reply)
+    → IfSome number (λ n. IsDoneAfter programs bank known front share j result reply)
+done_after None programs bank known reported reached front share j result reply grow more announcing is done = tt
+done_after (Some n) programs bank known reported reached front share j result reply grow more announcing is done =
     let before = done.last.before in record {
       done = record {
         place = done.place;
-        last = record { before = before; next = done.last.next; log = is ∙ done.last.log; seen = prefix_trans known told before more done.last.seen };
+        last = record { before = before; next = done.last.next; log = is ∙ done.last.log; seen = prefix_trans known reported before more done.last.seen };
         status = done.status;
         numbers = done.numbers;
         reply_is = done.reply_is;
       };
-      published = prefix_trans programs (publishes_of told) (publishes_of before) telling (grow told before done.last.seen);
+      published = prefix_trans programs (publishes_of reported) (publishes_of before) announcing (grow reported before done.last.seen);
     }
 
 -- if the bank takes it, it ends as at a plain bank

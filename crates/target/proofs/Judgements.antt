@@ -12,9 +12,9 @@ use Rattle.node_programs.specs.Published.{judging_program, program_at, generatio
 use Rattle.node_programs.specs.Staged.{Staged}
 use Rattle.node_parts.specs.Slots.{slot_of}
 use Rattle.node_parts.specs.Passes.{RunContextValue, pass_of}
-use Rattle.node_parts.specs.Steps.{IsAdmission, IsJudgedOnce, IsJudgement, IsTaken, IsVerdict}
+use Rattle.node_parts.specs.Steps.{IsAdmission, IsJudgedOnce, IsJudgement, IsTaken, IsPacketVerdict}
 use Rattle.target.specs.Steps.{IsJudgedByTaken}
-use Rattle.annals.specs.Shown.{IsTakenAt}
+use Rattle.annals.specs.Shown.{IsTakenAtMoment}
 use Rattle.annals.specs.declared.deed.Link.{Link}
 use Rattle.lemmas.proofs.Options.{some_same}
 
@@ -29,18 +29,18 @@ pub judged_by_taken : (known seen taken : List Publish) (old new : RunContextVal
     → program_at taken slot ≡ Some program → generation_at taken slot ≡ Some generation
     → IsJustified program.program program.sizes
     → IsJudgedOnce program generation old new admitted j → IsJudgedByTaken known seen old new admitted j
-judged_by_taken known seen taken old new admitted j program generation slot same longer at shows tells accepted once =
-    let told : j.generation ≡ generation = ap (λ (x : JudgedValue). x.generation) once.judged.judged in
-    let shown = subst (λ s. judging_program taken s ≡ Some (program, generation)) at (both_shown (judging_program taken slot) program generation shows tells) in
+judged_by_taken known seen taken old new admitted j program generation slot same longer at shows reports accepted once =
+    let reported : j.generation ≡ generation = ap (λ (x : JudgedValue). x.generation) once.judged.judged in
+    let shown = subst (λ s. judging_program taken s ≡ Some (program, generation)) at (both_shown (judging_program taken slot) program generation shows reports) in
     record {
       program = program;
       taken = record {
         longer = subst (λ l. IsPrefix known l) (sym same) longer;
         shown = subst (λ l. judging_program l (slot_of (command_kind (command_of admitted.packet)) admitted.place) ≡ Some (program, j.generation)) (sym same)
-            (subst (λ n. judging_program taken (slot_of (command_kind (command_of admitted.packet)) admitted.place) ≡ Some (program, n)) (sym told) shown);
+            (subst (λ n. judging_program taken (slot_of (command_kind (command_of admitted.packet)) admitted.place) ≡ Some (program, n)) (sym reported) shown);
         accepted = accepted;
       };
-      once = subst (λ n. IsJudgedOnce program n old new admitted j) (sym told) once;
+      once = subst (λ n. IsJudgedOnce program n old new admitted j) (sym reported) once;
     }
 
 -- the command of a packet that was admitted, and then judged by the program that was taken
@@ -64,12 +64,12 @@ judgement_of b left known seen shares staging admitted p j admission by =
         placed = rw place (admission.placed);
         port_of = ap (λ (x : JudgedValue). x.port) is;
         generation_of = refl;
-        verdict = subst (λ (x : Cargo). IsVerdict by.program b.port once.calls x j.verdict) admission.packet once.judged.verdict;
+        verdict = subst (λ (x : Cargo). IsPacketVerdict by.program b.port once.calls x j.verdict) admission.packet once.judged.verdict;
       };
     }
 
 -- a moment after what somebody saw is one after what this one had seen before
-pub taken_since : (known first reached : List Link) (programs : List Publish) → IsPrefix known first → IsTakenAt first reached programs → IsTakenAt known reached programs
+pub taken_since : (known first reached : List Link) (programs : List Publish) → IsPrefix known first → IsTakenAtMoment first reached programs → IsTakenAtMoment known reached programs
 taken_since known first reached programs begins at = record {
   at = at.at;
   after = (begins.0 ++ at.after.0, sym (append_assoc known begins.0 at.after.0) ∙ (ap (λ (l : List Link). l ++ at.after.0) begins.1 ∙ at.after.1));

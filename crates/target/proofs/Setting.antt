@@ -6,7 +6,7 @@ use Rattle.std.proofs.lemmas.List.{get_or-map, length-map}
 use Rattle.bank.specs.Effect.{overlaid}
 use Rattle.bank.specs.Records.{BankValue, JournalValue, after_setting, covers, extent_of}
 use Rattle.annals.specs.Banks.{KeptValue}
-use Rattle.target.specs.Nodes.{AreNumbered}
+use Rattle.target.specs.Nodes.{AreInPlace}
 use Rattle.target.specs.Unshared.{banks_of, chain_numbers, covers_at, with_setting}
 
 -- ---- one bank
@@ -67,7 +67,7 @@ numbers_stay (k ∷ kept) (suc number) one new low at same =
     ap (λ (l : List ℕ). k.chain.number ∷ l) (numbers_stay kept number one new (omega (arith, low)) at same)
 
 -- the number of what was found at a place
-pub number_there : (kept : List KeptValue) (number : ℕ) (one : KeptValue) → number < length kept → one ≡ get_or kept number one → AreNumbered (chain_numbers kept)
+pub number_there : (kept : List KeptValue) (number : ℕ) (one : KeptValue) → number < length kept → one ≡ get_or kept number one → AreInPlace (chain_numbers kept)
     → one.chain.number ≡ number
 number_there kept number one low at are =
     ap (λ (v : KeptValue). v.chain.number) at ∙ sym (get_or-map (λ (v : KeptValue). v.chain.number) kept number one 0 low) ∙ are number (omega (arith, low, length-map kept (λ (v : KeptValue). v.chain.number)))
@@ -102,10 +102,10 @@ found_set {shown} {kept} {number} {place} {address} {one} bytes fresh new found 
     set_there kept place address bytes fresh one new (found_below found) found.read is
     ∙ ap (λ (l : List BankValue). with_setting l place address bytes fresh) found.view_is ∙ ap (λ (n : ℕ). with_setting shown n address bytes fresh) found.place_is
 
-pub found_number : {shown : List BankValue} {kept : List KeptValue} {number place address count : ℕ} {one : KeptValue} → IsFoundAt shown kept number place address count one → AreNumbered (chain_numbers kept) → one.chain.number ≡ number
+pub found_number : {shown : List BankValue} {kept : List KeptValue} {number place address count : ℕ} {one : KeptValue} → IsFoundAt shown kept number place address count one → AreInPlace (chain_numbers kept) → one.chain.number ≡ number
 found_number {kept = kept} {place = place} {one = one} found are = number_there kept place one (found_below found) found.read are ∙ found.place_is
 
-pub found_numbers : {shown : List BankValue} {kept : List KeptValue} {number place address count : ℕ} {one : KeptValue} (new : KeptValue) → IsFoundAt shown kept number place address count one → AreNumbered (chain_numbers kept)
-    → new.chain.number ≡ one.chain.number → AreNumbered (chain_numbers (set kept place new))
+pub found_numbers : {shown : List BankValue} {kept : List KeptValue} {number place address count : ℕ} {one : KeptValue} (new : KeptValue) → IsFoundAt shown kept number place address count one → AreInPlace (chain_numbers kept)
+    → new.chain.number ≡ one.chain.number → AreInPlace (chain_numbers (set kept place new))
 found_numbers {kept = kept} {place = place} {one = one} new found are same =
-    subst AreNumbered (sym (numbers_stay kept place one new (found_below found) found.read same)) are
+    subst AreInPlace (sym (numbers_stay kept place one new (found_below found) found.read same)) are

@@ -9,13 +9,13 @@ use Rattle.node_parts.specs.Applied.{share_of, with_share}
 use Rattle.annals.specs.declared.deed.Act.TheVariants.{Leaves}
 use Rattle.annals.specs.declared.deed.Link.{Link}
 use Rattle.annals.specs.Chains.{Due}
-use Rattle.annals.specs.Banks.{KeptValue, IsAppliedTo, IsDone, IsRefusedAt, takes}
+use Rattle.annals.specs.Banks.{KeptValue, IsAppliedTo, IsDoneAtBank, IsRefusedAt, takes}
 use Rattle.annals.specs.Publishes.{publishes_of}
 
 -- the command was done at the bank, and those publishes are in the history before it
-pub record IsDoneBehind (programs : List Publish) (bank : ℕ) (known reached : List Link) (share : ShareValue)
+pub record IsDoneAfter (programs : List Publish) (bank : ℕ) (known reached : List Link) (share : ShareValue)
     (judged : JudgedValue) (result : Applied) (bytes : List ℕ) : Type 0 where
-  pub done : IsDone bank known reached share judged result bytes
+  pub done : IsDoneAtBank bank known reached share judged result bytes
   pub published : IsPrefix programs (publishes_of done.last.before)
 
 -- How a judged command ends at a bank with its chain, by the port's own share of it. It is applied if the bank takes
@@ -30,7 +30,7 @@ pub record IsFinishedAt (old new : KeptValue) (known reached : List Link) (holde
   pub refused : takes old (share_of holder judged.place) judged ≡ false
       → IsRefusedAt old new (share_of holder judged.place) share judged result bytes
   pub done : IfSome result.number
-      (λ n. IsDoneBehind holder.programs old.chain.number known reached (share_of holder judged.place) judged result bytes)
+      (λ n. IsDoneAfter holder.programs old.chain.number known reached (share_of holder judged.place) judged result bytes)
   pub none : IfNone result.number (reached ≡ known)
 
 -- If a command left an entry at the bank, its port asked for that, after what it asked for before. Else it asked for

@@ -18,8 +18,8 @@ pub record AreFirst (factory : AcceptedValue) (firsts : List (ℕ × AcceptedVal
   pub readers_are : readers ≡ replicate ports (known (programs_with factory firsts) None)
 
 -- each number is its place
-abbrev pub AreNumbered : List ℕ → Type 0
-AreNumbered numbers = (k : ℕ) → k < length numbers → slice_index numbers k ≡ k
+abbrev pub AreInPlace : List ℕ → Type 0
+AreInPlace numbers = (k : ℕ) → k < length numbers → slice_index numbers k ≡ k
 
 -- What a port of a node has of it at first, if those programs were published after the factory program. The port knows
 -- of all of them. All else is as without them.

@@ -3,7 +3,7 @@ use Rattle.std.specs.Prelude.{◌≡◌, ℕ, List, []}
 use Rattle.spw.specs.Cargo.{Cargo}
 use Rattle.rmap.specs.Command.{command_of}
 use Rattle.bver.specs.Justified.{AcceptedValue}
-use Rattle.annals.specs.Shown.{IsTakenAt}
+use Rattle.annals.specs.Shown.{IsTakenAtMoment}
 use Rattle.annals.specs.declared.deed.Link.{Link}
 use Rattle.bank.specs.Records.{AdmittedValue, JudgedValue}
 use Rattle.node_programs.specs.declared.publishes.Publish.{Publish}
@@ -25,12 +25,12 @@ abbrev pub IsAtMoment : Step → (known reached : List Link) → (after : PassVa
 IsAtMoment (Discarded d back) known reached after = Unit {0}
 IsAtMoment (Answered status back) known reached after = Unit {0}
 IsAtMoment (Unread back) known reached after = Unit {0}
-IsAtMoment (Judged j) known reached after = IsTakenAt known reached after.programs
+IsAtMoment (Judged j) known reached after = IsTakenAtMoment known reached after.programs
 
 -- How far a packet comes by itself, what becomes of the port, and the reply that is due then. A program runs only for a
 -- command that is judged, and for that one it runs once.
-abbrev pub IsStep : Step → Cargo → (before after : PassValue) → List ℕ → Type 0
-IsStep (Discarded d back) p h after reply = (back ≡ p) × (after ≡ h) × IsStopped (NoCommand d) p h.windows reply
-IsStep (Answered status back) p h after reply = (back ≡ p) × (after ≡ h) × IsStopped (Fault status) p h.windows reply
-IsStep (Unread back) p h after reply = (back ≡ p) × (after ≡ h) × IsUnread p h.windows reply
-IsStep (Judged j) p h after reply = IsJudgement h after p j × (reply ≡ [])
+abbrev pub IsPacketStep : Step → Cargo → (before after : PassValue) → List ℕ → Type 0
+IsPacketStep (Discarded d back) p h after reply = (back ≡ p) × (after ≡ h) × IsStopped (NoCommand d) p h.windows reply
+IsPacketStep (Answered status back) p h after reply = (back ≡ p) × (after ≡ h) × IsStopped (Fault status) p h.windows reply
+IsPacketStep (Unread back) p h after reply = (back ≡ p) × (after ≡ h) × IsUnread p h.windows reply
+IsPacketStep (Judged j) p h after reply = IsJudgement h after p j × (reply ≡ [])

@@ -29,7 +29,7 @@ pub use lock::BankLock;
 pub use node::Node;
 pub use node_parts::{BankConfig, NodeConfig, NodeFault};
 pub use pass::Pass;
-pub use publish::{Family, Opened};
+pub use publish::{Family, NodeHistory};
 pub use staged::stage;
 pub use step::{Step, judge};
 pub use unshared::UnsharedNode;

@@ -7,8 +7,8 @@ ghost use Rattle.annals.specs.Chains.{instrument};
 ghost use Rattle.cells.specs.Seats.{cells};
 ghost use Rattle.node_parts.specs.Nodes.{IsNodeFault, first_passes, limit_fault};
 ghost use Rattle.publish.specs.Lines.{opening_line};
-ghost use Rattle.publish.specs.Firsts.{IsFirst, line_with_firsts};
-ghost use Rattle.target.specs.Nodes.{AreNumbered, informed_passes};
+ghost use Rattle.publish.specs.Firsts.{IsFirstProgram, line_with_firsts};
+ghost use Rattle.target.specs.Nodes.{AreInPlace, informed_passes};
 ghost use Rattle.target.specs.Passes.{unasked};
 
 use crate::lock::BankLock;
@@ -18,7 +18,7 @@ use annals::{Family, Front, Line};
 use bver::Accepted;
 use cells::Cells;
 use node_parts::{NodeConfig, NodeFault};
-use publish::{Opened, Publisher};
+use publish::{NodeHistory, Publisher};
 use std::alloc::Global;
 use std::marker::Model;
 use std::sync::{Mutex, Wait};
@@ -36,13 +36,13 @@ pub struct Node<J: Family, R: Wait + Drop> {
 impl<J: Family, R: Wait + Drop> Model for Node<J, R> {
     ghost use Rattle.std.specs.Prelude.{◌≡◌, ℕ, [], length};
     ghost use base.Stored.{Gv};
-    ghost use Rattle.target.specs.Nodes.{AreNumbered};
+    ghost use Rattle.target.specs.Nodes.{AreInPlace};
 
     ghost Value = { ℕ };
 
     ghost view = { λ n. length n.banks.items };
 
-    ghost invariant = { λ n. AreNumbered n.banks.items × (n.front ≡ []) };
+    ghost invariant = { λ n. AreInPlace n.banks.items × (n.front ≡ []) };
 }
 
 impl<J: Family, R: Wait + Drop> Node<J, R> {
@@ -58,7 +58,7 @@ impl<J: Family, R: Wait + Drop> Node<J, R> {
     pub fn new(
         alloc: Global,
         rt: R,
-        opened: Opened,
+        opened: NodeHistory,
         config: &NodeConfig,
         factory: Accepted,
     ) -> Result<(Node<J, R>, Vec<Pass<J>>), NodeFault>
@@ -85,7 +85,7 @@ impl<J: Family, R: Wait + Drop> Node<J, R> {
     pub fn with_cells(
         alloc: Global,
         rt: R,
-        opened: Opened,
+        opened: NodeHistory,
         config: &NodeConfig,
         factory: Accepted,
     ) -> Result<(Node<J, R>, Cells, Vec<Pass<J>>, Line<J>), NodeFault>
@@ -115,14 +115,14 @@ impl<J: Family, R: Wait + Drop> Node<J, R> {
     pub fn with_programs(
         alloc: Global,
         rt: R,
-        opened: Opened,
+        opened: NodeHistory,
         config: &NodeConfig,
         factory: Accepted,
         firsts: &[(u8, Accepted)],
     ) -> Result<(Node<J, R>, Cells, Vec<Pass<J>>, Line<J>), NodeFault>
         requires family { opened ≡ J.book }
         requires sizes { factory.sizes ≡ config.now.sizes }
-        requires firsts { All (IsFirst config.now.sizes) firsts.now }
+        requires firsts { All (IsFirstProgram config.now.sizes) firsts.now }
         requires few { length firsts.now ≤ 4294967295 }
         ensures banks { IfOk result (λ made. made.0 ≡ length config.now.banks.now) }
         ensures cells { IfOk result
@@ -149,7 +149,7 @@ impl<J: Family, R: Wait + Drop> Node<J, R> {
         publisher: Publisher<J, R>,
         front: Front<J>,
     ) -> Node<J, R>
-        requires numbers { AreNumbered banks.items }
+        requires numbers { AreInPlace banks.items }
         requires front { front ≡ [] }
         ensures { result ≡ length banks.items }
     {

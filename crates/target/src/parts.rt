@@ -8,17 +8,17 @@ ghost use Rattle.cells.specs.Seats.{cells};
 ghost use Rattle.node_parts.specs.Nodes.{AreSharesOf};
 ghost use Rattle.node_programs.specs.Histories.{entry};
 ghost use Rattle.target.specs.Lines.{fresh_lines};
-ghost use Rattle.publish.specs.Firsts.{IsFirst, line_with_firsts, programs_with};
+ghost use Rattle.publish.specs.Firsts.{IsFirstProgram, line_with_firsts, programs_with};
 ghost use Rattle.target.specs.Nodes.{AreFirst, informed_passes};
 ghost use Rattle.target.specs.Passes.{unasked};
 
 use crate::pass::Pass;
-use annals::{Chain, Family, Line, ShownCount};
+use annals::{Chain, Family, Line, PublishedCount};
 use bver::Accepted;
 use cells::{CellSeat, Cells};
 use node_parts::{NodeConfig, PortShares, RunContext};
 use node_programs::Staging;
-use publish::{Loader, Programs, Publisher, Reader};
+use publish::{LoadRights, Programs, Publisher, Reader};
 use rmap::MAX_BANKS;
 use spw::PORTS;
 use std::alloc::{AllocError, Global};
@@ -33,8 +33,8 @@ use std::sync::Wait;
 fn lines<J: Family>(
     alloc: Global,
     ports: u8,
-    mut history: annals::Opened,
-) -> Result<(Vec<Line<J>>, ShownCount<J>), AllocError>
+    mut history: annals::EmptyHistory,
+) -> Result<(Vec<Line<J>>, PublishedCount<J>), AllocError>
     requires family { history.0 ≡ J.book }
     requires chains { history.1 ≡ 32 }
     requires ports { ports ≤ PORTS }
@@ -48,7 +48,7 @@ fn lines<J: Family>(
         lines.push(line)?;
     }
     history.skip(PORTS - ports);
-    Ok((lines, history.into_shown_count()))
+    Ok((lines, history.into_published_count()))
 }
 
 /// The pass of each port, in order, each with its line.
@@ -79,7 +79,7 @@ fn passes<J: Family>(
         };
         let pass = Pass {
             context: RunContext::new(port, config.windows(), seat),
-            loader: Loader { reader, line },
+            loader: LoadRights { reader, line },
             shares: by_port[usize::from(port)].take(alloc),
             staging: Staging::new(alloc)?,
         };
@@ -97,7 +97,7 @@ pub(crate) fn cells_and_passes<J: Family, R: Wait + Drop>(
     rt: R,
     chain: Chain<J>,
     line: &mut Line<J>,
-    history: annals::Opened,
+    history: annals::EmptyHistory,
     config: &NodeConfig,
     factory: Accepted,
     firsts: &[(u8, Accepted)],
@@ -108,7 +108,7 @@ pub(crate) fn cells_and_passes<J: Family, R: Wait + Drop>(
     requires family { history.0 ≡ J.book }
     requires chains { history.1 ≡ 32 }
     requires sizes { factory.sizes ≡ config.now.sizes }
-    requires firsts { All (IsFirst config.now.sizes) firsts.now }
+    requires firsts { All (IsFirstProgram config.now.sizes) firsts.now }
     requires few { length firsts.now ≤ 4294967295 }
     requires banks { length config.now.banks.now ≤ MAX_BANKS }
     requires ports { config.now.ports ≤ PORTS }
@@ -123,12 +123,12 @@ pub(crate) fn cells_and_passes<J: Family, R: Wait + Drop>(
     ensures owner { IfOk result (λ _. line.new.port ≡ line.old.port) }
 {
     let (cells, seats) = Cells::new(alloc, &config.sizes, config.ports)?;
-    let (lines, shown_count) = lines(alloc, config.ports, history)?;
+    let (lines, published_count) = lines(alloc, config.ports, history)?;
     let (publisher, readers) = Programs::with_chain(
         alloc,
         rt,
         chain,
-        shown_count,
+        published_count,
         line,
         factory,
         firsts,

@@ -12,7 +12,7 @@ use bank::Share;
 use cells::CellSeat;
 use node_parts::RunContext;
 use node_programs::Staging;
-use publish::Loader;
+use publish::LoadRights;
 use spw::PORTS;
 use std::marker::Model;
 
@@ -22,7 +22,7 @@ use std::marker::Model;
 #[derive(Drop)]
 pub struct Pass<J: Family> {
     pub(crate) context: RunContext<CellSeat>,
-    pub(crate) loader: Loader<J>,
+    pub(crate) loader: LoadRights<J>,
     pub(crate) shares: Vec<Share>,
     pub(crate) staging: Staging,
 }
@@ -95,7 +95,7 @@ impl<J: Family> Pass<J> {
     /// Somebody learns enough of the history that all which the port asked for is in it, done.
     pub fn tell(&self, known: &mut Front<J>)
         ensures known { IsPrefix known.old known.new }
-        ensures told { IsPrefix self.now.asked (done_for self.now.pass.port known.new) }
+        ensures reported { IsPrefix self.now.asked (done_for self.now.pass.port known.new) }
     {
         self.loader.line.tell(known);
     }

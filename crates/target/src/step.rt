@@ -2,9 +2,9 @@
 
 ghost use Rattle.std.specs.Prelude.{◌≡◌, IfErr, IfOk, OnErr};
 ghost use Rattle.node_programs.specs.Published.{sizes_of};
-ghost use Rattle.target.specs.Steps.{IsAtMoment, IsJudgedByTaken, IsStep};
+ghost use Rattle.target.specs.Steps.{IsAtMoment, IsJudgedByTaken, IsPacketStep};
 ghost use mathlib.Core.List.{IsPrefix};
-ghost use Rattle.annals.specs.Shown.{IsTakenAt};
+ghost use Rattle.annals.specs.Shown.{IsTakenAtMoment};
 
 use crate::pass::Pass;
 use annals::Front;
@@ -42,7 +42,7 @@ fn judge_taken<J: Family>(
         IsJudgedByTaken reader.old.programs reader.new.programs
         context.old context.new admitted j) }
     ensures known { IsPrefix front.old front.new }
-    ensures moment { IfOk result (λ _. IsTakenAt front.old front.new reader.new.programs) }
+    ensures moment { IfOk result (λ _. IsTakenAtMoment front.old front.new reader.new.programs) }
     ensures back { IfErr result (λ back. back ≡ admitted) }
     ensures same { OnErr result ((context.new ≡ context.old) × (reader.new ≡ reader.old)) }
     ensures sizes { sizes_of reader.new.programs ≡ sizes_of reader.old.programs }
@@ -69,7 +69,7 @@ pub fn judge<J: Family>(
     packet: Packet,
     reply: &mut ReplyBuf,
 ) -> Step
-    ensures step { IsStep result packet pass.old.pass pass.new.pass reply.new }
+    ensures step { IsPacketStep result packet pass.old.pass pass.new.pass reply.new }
     ensures known { IsPrefix front.old front.new }
     ensures moment { IsAtMoment result front.old front.new pass.new.pass }
     ensures asked { pass.new.asked ≡ pass.old.asked }

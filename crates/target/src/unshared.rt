@@ -4,7 +4,7 @@ ghost use Rattle.std.specs.Prelude.{◌≡◌, ◌≤◌, ◌+◌, ◌-◌, [], 
 ghost use base.Stored.{Gv};
 ghost use Rattle.std.specs.List.{All};
 ghost use Rattle.annals.specs.Banks.{IsFresh};
-ghost use Rattle.annals.specs.Chains.{IsLast, instrument, line_with};
+ghost use Rattle.annals.specs.Chains.{IsLastDeed, instrument, line_with};
 ghost use Rattle.annals.specs.Publishes.{publishes_chain, publishes_of};
 ghost use Rattle.annals.specs.declared.deed.Act.TheVariants.{Sets};
 ghost use Rattle.annals.specs.declared.deed.Deed.TheVariants.{Does};
@@ -12,8 +12,8 @@ ghost use Rattle.bank.specs.Records.{extent_of};
 ghost use Rattle.cells.specs.Seats.{cells};
 ghost use Rattle.node_parts.specs.Nodes.{IsNodeFault, fresh_banks, limit_fault};
 ghost use Rattle.publish.specs.Lines.{opening_line};
-ghost use Rattle.publish.specs.Firsts.{IsFirst, line_with_firsts};
-ghost use Rattle.target.specs.Nodes.{AreNumbered, informed_passes};
+ghost use Rattle.publish.specs.Firsts.{IsFirstProgram, line_with_firsts};
+ghost use Rattle.target.specs.Nodes.{AreInPlace, informed_passes};
 ghost use Rattle.target.specs.Passes.{unasked};
 ghost use Rattle.target.specs.Unshared.{banks_of, chain_numbers, covers_at, with_setting};
 
@@ -26,7 +26,7 @@ use bank::Journal;
 use bver::Accepted;
 use cells::Cells;
 use node_parts::{Banks, NodeConfig, NodeFault};
-use publish::{Opened, Publisher};
+use publish::{NodeHistory, Publisher};
 use rmap::MAX_BANKS;
 use std::alloc::{AllocError, Global};
 use std::marker::Model;
@@ -46,14 +46,14 @@ pub struct UnsharedNode<J: Family, R: Wait + Drop> {
 impl<J: Family, R: Wait + Drop> Model for UnsharedNode<J, R> {
     ghost use Rattle.std.specs.Prelude.{◌≡◌, List, []};
     ghost use Rattle.bank.specs.Records.{BankValue};
-    ghost use Rattle.target.specs.Nodes.{AreNumbered};
+    ghost use Rattle.target.specs.Nodes.{AreInPlace};
     ghost use Rattle.target.specs.Unshared.{banks_of, chain_numbers};
 
     ghost Value = { List BankValue };
 
     ghost view = { λ n. banks_of n.banks.items };
 
-    ghost invariant = { λ n. AreNumbered (chain_numbers n.banks.items) × (n.front ≡ []) };
+    ghost invariant = { λ n. AreInPlace (chain_numbers n.banks.items) × (n.front ≡ []) };
 }
 
 /// The banks in order, each with its number and the chain of that number in the history. Chains of banks that do not
@@ -65,14 +65,14 @@ impl<J: Family, R: Wait + Drop> Model for UnsharedNode<J, R> {
 fn kept_banks<J: Family>(
     alloc: Global,
     banks: Banks,
-    history: &mut annals::Opened,
+    history: &mut annals::EmptyHistory,
 ) -> Result<Vec<Kept<J>>, AllocError>
     requires family { history.old.0 ≡ J.book }
     requires chains { history.old.1 ≡ 42 }
     requires few { length banks ≤ MAX_BANKS }
     requires fresh { All IsFresh banks }
     ensures banks { IfOk result (λ all. banks_of all.items ≡ banks) }
-    ensures numbers { IfOk result (λ all. AreNumbered (chain_numbers all.items)) }
+    ensures numbers { IfOk result (λ all. AreInPlace (chain_numbers all.items)) }
     ensures chains { IfOk result (λ _. history.new.1 + publishes_chain ≡ 42) }
     ensures family { IfOk result (λ _. history.new.0 ≡ history.old.0) }
 {
@@ -94,14 +94,14 @@ fn kept_banks<J: Family>(
 fn banks_and_chain<J: Family>(
     alloc: Global,
     banks: Banks,
-    history: &mut annals::Opened,
+    history: &mut annals::EmptyHistory,
 ) -> Result<(Vec<Kept<J>>, Chain<J>, Line<J>), AllocError>
     requires family { history.old.0 ≡ J.book }
     requires chains { history.old.1 ≡ 42 }
     requires few { length banks ≤ MAX_BANKS }
     requires fresh { All IsFresh banks }
     ensures banks { IfOk result (λ made. banks_of made.0.items ≡ banks) }
-    ensures numbers { IfOk result (λ made. AreNumbered (chain_numbers made.0.items)) }
+    ensures numbers { IfOk result (λ made. AreInPlace (chain_numbers made.0.items)) }
     ensures chain { IfOk result (λ made. made.1.number ≡ publishes_chain) }
     ensures none { IfOk result (λ made. publishes_of made.1.log ≡ []) }
     ensures line { IfOk result (λ made. made.2 ≡ record { port = instrument; asked = [] }) }
@@ -142,14 +142,14 @@ impl<J: Family, R: Wait + Drop> UnsharedNode<J, R> {
     pub fn with_programs(
         alloc: Global,
         rt: R,
-        opened: Opened,
+        opened: NodeHistory,
         config: &NodeConfig,
         factory: Accepted,
         firsts: &[(u8, Accepted)],
     ) -> Result<(UnsharedNode<J, R>, Cells, Vec<Pass<J>>, Line<J>), NodeFault>
         requires family { opened ≡ J.book }
         requires sizes { factory.sizes ≡ config.now.sizes }
-        requires firsts { All (IsFirst config.now.sizes) firsts.now }
+        requires firsts { All (IsFirstProgram config.now.sizes) firsts.now }
         requires few { length firsts.now ≤ 4294967295 }
         ensures banks { IfOk result (λ made. made.0 ≡ fresh_banks config.now) }
         ensures cells { IfOk result
@@ -209,7 +209,7 @@ impl<J: Family, R: Wait + Drop> UnsharedNode<J, R> {
         requires inside { covers_at self.old number address (length bytes.now) ≡ true }
         ensures banks { self.new ≡ with_setting self.old number address bytes.now fresh }
         ensures extents { map extent_of self.new ≡ map extent_of self.old }
-        ensures last { IsLast number front.old front.new (Does (Sets (address, bytes.now))) }
+        ensures last { IsLastDeed number front.old front.new (Does (Sets (address, bytes.now))) }
         ensures asked { line.new ≡ line_with line.old number (Sets (address, bytes.now)) }
     {
         let kept = &mut self.banks[usize::from(number)];

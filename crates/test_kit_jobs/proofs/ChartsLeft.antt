@@ -4,9 +4,9 @@ use Rattle.policy_table.specs.Policies.{PolicyValue}
 use Rattle.policy_table.specs.declared.text_faults.TextFault.{TextFault}
 use Rattle.job_parts.specs.Reading.{TextUnread}
 use Rattle.job_parts.specs.declared.faults.Fault.{Fault}
-use Rattle.job_parts.specs.declared.status.Status.{Status}
-use Rattle.job_parts.specs.declared.status.Status.TheVariants.{Done, Failed, Misused}
-use Rattle.job_charts.specs.ComparedFile.{AreTables, ComparesFile, IsBad, IsNotCompared, IsUnread}
+use Rattle.job_parts.specs.declared.status.ExitStatus.{ExitStatus}
+use Rattle.job_parts.specs.declared.status.ExitStatus.TheVariants.{Done, Failed, Misused}
+use Rattle.job_charts.specs.ComparedFile.{AreFileTables, ComparesFile, IsComparedBadTable, IsNotCompared, AreTablesUnread}
 use Rattle.job_charts.specs.MappedFile.{IsNotMapped, MapsFile}
 use Rattle.job_charts.specs.declared.compare.CompareWords.{CompareWords}
 use Rattle.job_charts.specs.declared.map.MapWords.{MapWords}
@@ -21,7 +21,7 @@ same before name (Some bytes) after read = read.0
 no_text : (before : FolderValue) (name : List ℕ) (after : FolderValue) (fault : Fault) → TextUnread FolderReads before name after fault → after ≡ before
 no_text before name after fault is = same before name is.no_text.given after is.no_text.read
 
-pub maps_file : (words : MapWords) (before after : FolderValue) (old new : Option (List ℕ)) (status : Status)
+pub maps_file : (words : MapWords) (before after : FolderValue) (old new : Option (List ℕ)) (status : ExitStatus)
     → MapsFile FolderReads words before after old new status → after ≡ before
 maps_file words before after old new Done is = is.given.read.0
 maps_file words before after old new Failed (inl is) = is.given.read.0
@@ -34,19 +34,19 @@ unmapped words before after fault (inr is) = is.given.read.0
 
 -- two tables that were read
 paired : (words : CompareWords) (before : FolderValue) (one other : PolicyValue) (after : FolderValue)
-    → AreTables FolderReads words before one other after → after ≡ before
+    → AreFileTables FolderReads words before one other after → after ≡ before
 paired words before one other after are = are.second.read.0 ∙ are.first.read.0
 
 bad : (words : CompareWords) (before after : FolderValue) (name : List ℕ) (fault : TextFault)
-    → IsBad FolderReads words before after name fault → after ≡ before
+    → IsComparedBadTable FolderReads words before after name fault → after ≡ before
 bad words before after name fault (inl is) = is.1.read.0
 bad words before after name fault (inr is) = is.1.held.read.0 ∙ is.1.first.read.0
 
-unread : (words : CompareWords) (before after : FolderValue) (fault : Fault) → IsUnread FolderReads words before after fault → after ≡ before
+unread : (words : CompareWords) (before after : FolderValue) (fault : Fault) → AreTablesUnread FolderReads words before after fault → after ≡ before
 unread words before after fault (inl is) = no_text before _ after fault is
 unread words before after fault (inr is) = no_text is.between _ after fault is.unread ∙ is.first.read.0
 
-pub compares_file : (words : CompareWords) (before after : FolderValue) (old new : Option (List ℕ)) (status : Status)
+pub compares_file : (words : CompareWords) (before after : FolderValue) (old new : Option (List ℕ)) (status : ExitStatus)
     → ComparesFile FolderReads words before after old new status → after ≡ before
 compares_file words before after old new status (inl is) = paired words before is.one is.other after is.tables
 compares_file words before after old new status (inr is) = bad words before after is.name is.fault is.bad

@@ -3,9 +3,9 @@ use Rattle.std.proofs.Common.{◌≡◌, inl, inr, ℕ, List, Option, Some, None
 use Rattle.policy_table.specs.Policies.{PolicyValue}
 use Rattle.job_parts.specs.Reading.{TextUnread}
 use Rattle.job_parts.specs.declared.faults.Fault.{Fault}
-use Rattle.job_parts.specs.declared.status.Status.{Status}
-use Rattle.job_parts.specs.declared.status.Status.TheVariants.{Done, Failed, Misused}
-use Rattle.job_decide.specs.DecidedFile.{Decides, IsGiven, IsNotDecided, IsUnread}
+use Rattle.job_parts.specs.declared.status.ExitStatus.{ExitStatus}
+use Rattle.job_parts.specs.declared.status.ExitStatus.TheVariants.{Done, Failed, Misused}
+use Rattle.job_decide.specs.DecidedFile.{DecidesJob, IsGiven, IsNotDecided, AreInputsUnread}
 use Rattle.job_decide.specs.declared.decide.DecideWords.{DecideWords}
 use Rattle.folders.specs.Folders.{FolderReads, FolderValue}
 
@@ -22,7 +22,7 @@ decided : (words : DecideWords) (before : FolderValue) (text : List ℕ) (policy
     → IsGiven FolderReads words before text policy after → after ≡ before
 decided words before text policy after given = given.table.read.0 ∙ given.lines.read.0
 
-unread : (words : DecideWords) (before after : FolderValue) (fault : Fault) → IsUnread FolderReads words before after fault → after ≡ before
+unread : (words : DecideWords) (before after : FolderValue) (fault : Fault) → AreInputsUnread FolderReads words before after fault → after ≡ before
 unread words before after fault (inl is) = no_text before _ after fault is
 unread words before after fault (inr (inl is)) = no_text is.between _ after fault is.unread ∙ is.lines.read.0
 unread words before after fault (inr (inr is)) = decided words before is.text is.policy after is.given
@@ -32,8 +32,8 @@ pub undecided : (words : DecideWords) (before after : FolderValue) (old new : Op
 undecided words before after old new fault (inl is) = unread words before after fault is.1
 undecided words before after old new fault (inr stops) = decided words before stops.text stops.first.table after stops.ready.given
 
-pub decides_file : (words : DecideWords) (before after : FolderValue) (old new : Option (List ℕ)) (status : Status)
-    → Decides FolderReads words before after old new status → after ≡ before
+pub decides_file : (words : DecideWords) (before after : FolderValue) (old new : Option (List ℕ)) (status : ExitStatus)
+    → DecidesJob FolderReads words before after old new status → after ≡ before
 decides_file words before after old new Done is = decided words before is.text is.first.table after is.ready.given
 decides_file words before after old new Failed is = is.held.table.read.0 ∙ is.held.lines.read.0
 decides_file words before after old new Misused is = absurd is

@@ -3,7 +3,7 @@ use Rattle.std.proofs.Common.{◌≡◌, inl, inr, ℕ, zero, suc, List, Option,
 use Rattle.bpf.specs.Program.{Program, image_bytes}
 use Rattle.machine.specs.Sizes.{Maps}
 use Rattle.job_parts.specs.Given.{HoldsNoProgram, HoldsProgram}
-use Rattle.job_parts.specs.Reading.{IsNoImage, IsNoProgram, TextUnread}
+use Rattle.job_parts.specs.Reading.{IsNoImage, HasNoProgram, TextUnread}
 use Rattle.job_parts.specs.declared.faults.Fault.{Fault}
 use Rattle.job_texts.specs.Assembled.{Assembles, IsNotAssembled}
 use Rattle.job_texts.specs.Compiled.{CompilesTable, IsNoTable, IsNotCompiled}
@@ -12,7 +12,7 @@ use Rattle.bver.specs.Justified.{AcceptedValue}
 use Rattle.sched.specs.Looking.{Node as Schedule}
 use Rattle.job_config.specs.OwnNodes.{OwnNodeValue}
 use Rattle.job_config.specs.declared.node_lines.NodeLines.{NodeLines}
-use Rattle.job_nodes.specs.Beginning.{BeginsAt, GivesNoWorld, HasContents, IsScheduled, IsUnscheduled, RefusesContents}
+use Rattle.job_nodes.specs.Beginning.{BeginsSchedules, GivesNoWorld, HasContents, IsScheduled, IsUnscheduled, RefusesContents}
 use Rattle.job_config.specs.declared.sources.NodeSource.{NodeSource}
 use Rattle.job_config.specs.declared.sources.NodeSource.TheVariants.{File, Words}
 use Rattle.job_nodes.specs.JobNode.{JobNodeValue}
@@ -22,10 +22,10 @@ use Rattle.job_nodes.specs.Simulated.{DoesSim, IsNotSimulated}
 use Rattle.job_ports.specs.OwnNodes.{HoldsOwn}
 use Rattle.job_ports.specs.ServedFile.{AreGiven, IsNotServed}
 use Rattle.job_trace.specs.Traced.{DoesTrace, IsNotTraced}
-use Rattle.job_parts.specs.Statuses.{status_code}
-use Rattle.job_parts.specs.declared.status.Status.{Status}
-use Rattle.job_parts.specs.declared.status.Status.TheVariants.{Done, Failed, Misused}
-use Rattle.commands.specs.Performed.{IsDone, IsEnded, Performs}
+use Rattle.job_parts.specs.Statuses.{exit_code}
+use Rattle.job_parts.specs.declared.status.ExitStatus.{ExitStatus}
+use Rattle.job_parts.specs.declared.status.ExitStatus.TheVariants.{Done, Failed, Misused}
+use Rattle.commands.specs.Performed.{IsJobDone, IsJobEnded, Performs}
 use Rattle.commands.specs.declared.jobs.Job.{Job}
 use Rattle.commands.specs.declared.jobs.Job.TheVariants.{Judge, Serve, Simulate, Trace, Assemble, Disassemble}
 use Rattle.commands.specs.declared.jobs.Job.TheVariants.{Verify, Policy, Explain, Why, Weigh, Node, Packet, Show}
@@ -33,7 +33,7 @@ use Rattle.commands.specs.declared.jobs.Job.TheVariants.{Decide, Compare, Map, R
 use Rattle.test_kit_jobs.proofs.ChartsLeft.{compares_file, maps_file, uncompared, unmapped}
 use Rattle.test_kit_jobs.proofs.DecidesLeft.{decides_file, undecided}
 use Rattle.test_kit_jobs.proofs.RehearsesLeft.{rehearses_file, unrehearsed}
-use Rattle.test_kit_jobs.proofs.NodesLeft.{asked, no_node, some_read, unread, untold}
+use Rattle.test_kit_jobs.proofs.NodesLeft.{asked, no_node, some_read, unread, unreported}
 use Rattle.test_kit_jobs.proofs.PacketsLeft.{made_file, unmade, unshown}
 use Rattle.test_kit_jobs.proofs.SuitesLeft.{no_suite, prints_suite}
 use Rattle.folders.specs.Folders.{FolderReads, FolderValue, FolderWrites, Sets}
@@ -47,7 +47,7 @@ no_image before name after fault (inl is) = is.unread
 no_image before name after fault (inr (bad, is, holds)) = holds.read.0
 
 unfit : (before : FolderValue) (name : List ℕ) (maps : Maps) (after : FolderValue) (fault : Fault)
-    → IsNoProgram FolderReads before name maps after fault → after ≡ before
+    → HasNoProgram FolderReads before name maps after fault → after ≡ before
 unfit before name maps after fault (inl is) = no_image before name after fault is
 unfit before name maps after fault (inr (refused, is, holds)) = holds.image.read.0
 
@@ -92,7 +92,7 @@ unjudged args before after old new fault (inl (same, inr lacks)) = unheld args.n
 unjudged args before after old new fault (inr stops) = ready_all args before stops.text stops.fresh after stops.ready
 
 -- the lines of a schedule, and the node on which they begin
-begun : (source : NodeSource) (before : FolderValue) (n : Schedule) (after : FolderValue) → BeginsAt FolderReads source before n after
+begun : (source : NodeSource) (before : FolderValue) (n : Schedule) (after : FolderValue) → BeginsSchedules FolderReads source before n after
     → after ≡ before
 begun (Words words) before n after begins = programmed before _ _ after begins.given
 begun (File name) before n after begins = some_read before after begins.read.only_reads
@@ -119,13 +119,13 @@ unscheduled : (args : NodeLines) (before after : FolderValue) (fault : Fault) �
 unscheduled args before after fault (inl unread_lines) = no_text before _ after fault unread_lines
 unscheduled args before after fault (inr lacks) = no_world args.node lacks.between after fault lacks.no_world ∙ lacks.read.0
 
-simulated : (args : NodeLines) (before after : FolderValue) (old new : Option (List ℕ)) (status : Status) → DoesSim FolderReads args before after old new status
+simulated : (args : NodeLines) (before after : FolderValue) (old new : Option (List ℕ)) (status : ExitStatus) → DoesSim FolderReads args before after old new status
     → after ≡ before
 simulated args before after old new Done done = scheduled_all args before done.text done.node after done.scheduled
 simulated args before after old new Failed done = absurd done
 simulated args before after old new Misused done = refused args before after old new done
 
-traced : (args : NodeLines) (before after : FolderValue) (old new : Option (List ℕ)) (status : Status) → DoesTrace FolderReads args before after old new status
+traced : (args : NodeLines) (before after : FolderValue) (old new : Option (List ℕ)) (status : ExitStatus) → DoesTrace FolderReads args before after old new status
     → after ≡ before
 traced args before after old new Done done = scheduled_all args before done.text done.node after done.scheduled
 traced args before after old new Failed done = absurd done
@@ -205,12 +205,12 @@ compiled before table image sizes after old new done =
     }
 
 -- what is left if a job was done, by the number of its status
-at_done : (job : Job) (before after : FolderValue) (status : Status) → status ≡ Done → Leaves job before after zero → Leaves job before after (status_code status)
-at_done job before after status is left = subst (λ (s : Status). Leaves job before after (status_code s)) (sym is) left
+at_done : (job : Job) (before after : FolderValue) (status : ExitStatus) → status ≡ Done → Leaves job before after zero → Leaves job before after (exit_code status)
+at_done job before after status is left = subst (λ (s : ExitStatus). Leaves job before after (exit_code s)) (sym is) left
 
 -- a job that came to its end
-done_leaves : (job : Job) (before after : FolderValue) (old new : Option (List ℕ)) (status : Status)
-    → IsDone FolderReads FolderWrites job before after old new status → Leaves job before after (status_code status)
+done_leaves : (job : Job) (before after : FolderValue) (old new : Option (List ℕ)) (status : ExitStatus)
+    → IsJobDone FolderReads FolderWrites job before after old new status → Leaves job before after (exit_code status)
 done_leaves (Assemble words) before after old new status done =
     at_done (Assemble words) before after status done.0 (assembled before _ _ after old new done.1)
 done_leaves (Disassemble words) before after old new status done = done.1.image.read.0
@@ -237,7 +237,7 @@ done_leaves (Suite words) before after old new status done = prints_suite words 
 
 -- a job that a fault ended
 ended_leaves : (job : Job) (before after : FolderValue) (old new : Option (List ℕ)) (fault : Fault)
-    → IsEnded FolderReads FolderWrites job before after old new fault → Leaves job before after (suc zero)
+    → IsJobEnded FolderReads FolderWrites job before after old new fault → Leaves job before after (suc zero)
 ended_leaves (Assemble words) before after old new fault ended = unassembled before _ _ after fault ended.0
 ended_leaves (Disassemble words) before after old new fault ended = unprinted before _ after fault ended.0
 ended_leaves (Verify args) before after old new fault ended = unfit before _ args.sizes after fault ended.0
@@ -248,7 +248,7 @@ ended_leaves (Simulate args) before after old new fault ended = unsimulated args
 ended_leaves (Explain words) before after old new fault ended = ended.1
 ended_leaves (Why args) before after old new fault ended = ended.0.unread
 ended_leaves (Weigh words) before after old new fault ended = unfit before _ words.sizes after fault ended.0
-ended_leaves (Node words) before after old new fault ended = untold words before after fault ended.0
+ended_leaves (Node words) before after old new fault ended = unreported words before after fault ended.0
 ended_leaves (Packet words) before after old new fault ended = unmade words before after fault ended.0
 ended_leaves (Show words) before after old new fault ended = unshown before _ after old new fault ended
 ended_leaves (Decide words) before after old new fault ended = undecided words before after old new fault ended
@@ -259,9 +259,9 @@ ended_leaves (Rehearse words) before after old new fault ended = unrehearsed wor
 ended_leaves (Suite words) before after old new fault ended = no_suite words before after fault ended.0
 
 -- what a job that ended with this status leaves
-pub performed_leaves : (job : Job) (before after : FolderValue) (old new : Option (List ℕ)) (status : Status)
-    → Performs FolderReads FolderWrites job before after old new status → Leaves job before after (status_code status)
+pub performed_leaves : (job : Job) (before after : FolderValue) (old new : Option (List ℕ)) (status : ExitStatus)
+    → Performs FolderReads FolderWrites job before after old new status → Leaves job before after (exit_code status)
 performed_leaves job before after old new status (inl done) = done_leaves job before after old new status done
-performed_leaves job before after old new status (inr (is, told)) =
-    subst (λ (s : Status). Leaves job before after (status_code s)) (sym is)
-    (ended_leaves job before after old told.printed told.fault told.ended)
+performed_leaves job before after old new status (inr (is, reported)) =
+    subst (λ (s : ExitStatus). Leaves job before after (exit_code s)) (sym is)
+    (ended_leaves job before after old reported.printed reported.fault reported.ended)

@@ -1,7 +1,7 @@
 -- What the reading of a node's file leaves in a folder: all as it was.
 use Rattle.std.proofs.Common.{◌≡◌, ◌∙◌, inl, inr, ℕ, List, [], ◌∷◌, Option, Some, None}
 use Rattle.job_config.specs.Reads.{AreRead, ReadsNoNode, SomeRead}
-use Rattle.job_node_file.specs.Printed.{IsNotTold}
+use Rattle.job_node_file.specs.Printed.{HasNoText}
 use Rattle.job_node_file.specs.Quotas.{ReadsAsked, ReadsNotAsked}
 use Rattle.job_node_file.specs.declared.node_file.NodeFileWords.{NodeFileWords}
 use Rattle.job_parts.specs.declared.faults.Fault.{Fault}
@@ -42,10 +42,10 @@ asked_none None before fault after none = absurd none
 asked_none (Some name) before fault after none = unread before name none.no_text.given after none.no_text.read
 
 -- no table or no node, or a node and no quotas of it or no memory for what is printed of it
-pub untold : (words : NodeFileWords) (before after : FolderValue) (fault : Fault) → IsNotTold FolderReads words before after fault
+pub unreported : (words : NodeFileWords) (before after : FolderValue) (fault : Fault) → HasNoText FolderReads words before after fault
     → after ≡ before
-untold words before after fault (inl none) = asked_none _ before fault after none
-untold words before after fault (inr (between, text, read, inl none)) =
+unreported words before after fault (inl none) = asked_none _ before fault after none
+unreported words before after fault (inr (between, text, read, inl none)) =
     no_node _ between after fault none ∙ asked _ before text between read
-untold words before after fault (inr (between, text, read, inr (own, program, made, is))) =
+unreported words before after fault (inr (between, text, read, inr (own, program, made, is))) =
     some_read between after made.only_reads ∙ asked _ before text between read

@@ -1,8 +1,8 @@
 -- The jobs on packets in words change no file.
 use Rattle.std.proofs.Common.{◌≡◌, inl, inr, ℕ, List, Option, Some, None}
 use Rattle.job_parts.specs.declared.faults.Fault.{Fault}
-use Rattle.job_parts.specs.declared.status.Status.{Status}
-use Rattle.job_parts.specs.declared.status.Status.TheVariants.{Done, Failed, Misused}
+use Rattle.job_parts.specs.declared.status.ExitStatus.{ExitStatus}
+use Rattle.job_parts.specs.declared.status.ExitStatus.TheVariants.{Done, Failed, Misused}
 use Rattle.job_packets.specs.MadePackets.{IsContentOf, IsMade, IsNotMade, MakesFile, file_of, own_data}
 use Rattle.job_show.specs.Shown.{IsNotShown}
 use Rattle.job_packets.specs.declared.packet.PacketWords.{PacketWords}
@@ -20,7 +20,7 @@ made : (words : PacketWords) (before : FolderValue) (lines : Option (List ℕ)) 
     → IsMade FolderReads words before lines after → after ≡ before
 made words before lines after is = content_read (file_of words.order) (own_data words.order) before is.content after is.given
 
-pub made_file : (words : PacketWords) (before after : FolderValue) (old new : Option (List ℕ)) (status : Status)
+pub made_file : (words : PacketWords) (before after : FolderValue) (old new : Option (List ℕ)) (status : ExitStatus)
     → MakesFile FolderReads words before after old new status → after ≡ before
 made_file words before after old new Done is = made words before (Some is.text) after is.made
 made_file words before after old new Failed is = absurd is

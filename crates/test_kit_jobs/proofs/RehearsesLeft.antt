@@ -2,12 +2,12 @@
 use Rattle.std.proofs.Common.{◌≡◌, inl, inr, ℕ, List, Option, ◌∙◌}
 use Rattle.machine.specs.Sizes.{Maps}
 use Rattle.job_parts.specs.declared.faults.Fault.{Fault}
-use Rattle.job_parts.specs.declared.status.Status.{Status}
+use Rattle.job_parts.specs.declared.status.ExitStatus.{ExitStatus}
 use Rattle.job_rehearse.specs.Policies.{AreImages, AreNoImages, GivesNoPolicy, HoldsNotAsked, HoldsNotBoth}
 use Rattle.job_rehearse.specs.Places.{HoldsNoPlace, HoldsPlace, sizes_at}
-use Rattle.job_rehearse.specs.Rehearsed.{AsksWith, Does, DoesAt, DoesNot, IsNotRehearsed, IsUnaskedThere, IsUndoneAt, RehearsesFile}
-use Rattle.job_rehearse.specs.declared.places.Place.{Place}
-use Rattle.job_rehearse.specs.declared.places.Place.TheVariants.{Plain, Own}
+use Rattle.job_rehearse.specs.Rehearsed.{AsksWith, DoesRehearsal, DoesAt, DoesNot, IsNotRehearsed, IsUnaskedThere, IsUndoneAt, RehearsesFile}
+use Rattle.job_rehearse.specs.declared.places.RehearsalNode.{RehearsalNode}
+use Rattle.job_rehearse.specs.declared.places.RehearsalNode.TheVariants.{Plain, Own}
 use Rattle.job_rehearse.specs.declared.places.PlaceWords.{PlaceWords}
 use Rattle.job_rehearse.specs.declared.places.PlaceWords.TheVariants.{Maps as HasMaps, File}
 use Rattle.job_rehearse.specs.declared.loaders.Loaders.TheVariants.{Any, One}
@@ -49,7 +49,7 @@ not_asked words sizes before after (Ended fault) (inr is) = images words sizes b
 not_asked words sizes before after (BadTable own fault) (inr is) = absurd is
 
 -- the node was read, or there is none
-placed : (words : PlaceWords) (before : FolderValue) (place : Place) (after : FolderValue) → HoldsPlace FolderReads words before place after → after ≡ before
+placed : (words : PlaceWords) (before : FolderValue) (place : RehearsalNode) (after : FolderValue) → HoldsPlace FolderReads words before place after → after ≡ before
 placed (HasMaps sizes) before (Plain own) after holds = holds.1
 placed (HasMaps sizes) before (Own own) after holds = absurd holds
 placed (File name) before (Plain own) after holds = absurd holds
@@ -60,25 +60,25 @@ unplaced (HasMaps sizes) before after fault none = absurd none
 unplaced (File name) before after fault none = no_node _ before after fault none
 
 -- a rehearsal at a node that no fault ended
-done_at : (words : RehearseWords) (place : Place) (named : _) (before after : FolderValue) (old new : Option (List ℕ)) (status : Status)
+done_at : (words : RehearseWords) (place : RehearsalNode) (named : _) (before after : FolderValue) (old new : Option (List ℕ)) (status : ExitStatus)
     → DoesAt FolderReads words place named before after old new status → after ≡ before
 done_at words place named before after old new status (inl is) = images words (sizes_at place) before is.held.images after is.held.are_images
 done_at words place named before after old new status (inr is) = not_both words (sizes_at place) before after (BadTable is.file is.fault) is.bad
 
-asks_with : (words : RehearseWords) (place : Place) (before after : FolderValue) (old new : Option (List ℕ)) (status : Status)
+asks_with : (words : RehearseWords) (place : RehearsalNode) (before after : FolderValue) (old new : Option (List ℕ)) (status : ExitStatus)
     → AsksWith FolderReads words place before after old new status → after ≡ before
 asks_with words place before after old new status (inl is) = images words (sizes_at place) before is.held.images after is.held.are_images
 asks_with words place before after old new status (inr is) = not_asked words (sizes_at place) before after (BadTable is.file is.fault) is.bad
 
 -- a rehearsal that no fault ended, of whose loads it is done
-done : (words : RehearseWords) (loaders : Loaders) (before after : FolderValue) (old new : Option (List ℕ)) (status : Status)
-    → Does FolderReads words loaders before after old new status → after ≡ before
+done : (words : RehearseWords) (loaders : Loaders) (before after : FolderValue) (old new : Option (List ℕ)) (status : ExitStatus)
+    → DoesRehearsal FolderReads words loaders before after old new status → after ≡ before
 done words (One named) before after old new status (inl is) = done_at words is.place named is.between after old new status is.does ∙ placed words.place before is.place is.between is.placed
 done words (One named) before after old new status (inr is) = placed words.place before is.place after is.placed
 done words Any before after old new status is = asks_with words is.place is.between after old new status is.does ∙ placed words.place before is.place is.between is.placed
 
 -- a rehearsal that a fault ended
-undone_at : (words : RehearseWords) (place : Place) (named : _) (before after : FolderValue) (old new : Option (List ℕ)) (fault : Fault)
+undone_at : (words : RehearseWords) (place : RehearsalNode) (named : _) (before after : FolderValue) (old new : Option (List ℕ)) (fault : Fault)
     → IsUndoneAt FolderReads words place named before after old new fault → after ≡ before
 undone_at words place named before after old new fault (inl is) = not_both words (sizes_at place) before after (Ended fault) is.1
 undone_at words place named before after old new fault (inr is) = images words (sizes_at place) before is.held.images after is.held.are_images
@@ -96,7 +96,7 @@ undone words (One named) before after old new fault (inr is) = undone_at words i
 undone words Any before after old new fault (is_same, inl is) = unplaced words.place before after fault is
 undone words Any before after old new fault (is_same, inr is) = unasked_there words before after fault is ∙ placed words.place before is.place is.between is.placed
 
-pub rehearses_file : (words : RehearseWords) (before after : FolderValue) (old new : Option (List ℕ)) (status : Status)
+pub rehearses_file : (words : RehearseWords) (before after : FolderValue) (old new : Option (List ℕ)) (status : ExitStatus)
     → RehearsesFile FolderReads words before after old new status → after ≡ before
 rehearses_file words before after old new status is = done words words.loaders before after old new status is
 

@@ -17,7 +17,7 @@ use std::thread::Threads;
 pub fn job_named(alloc: Global, named: &[&str]) -> Result<Job, UsageFault> {
     match words(alloc, named)? {
         Work::Once(job) => Ok(job),
-        Work::OnNode(_) | Work::Live(_) | Work::Told(_) => Err(UsageFault::BadOption),
+        Work::OnNode(_) | Work::Live(_) | Work::Printed(_) => Err(UsageFault::BadOption),
     }
 }
 

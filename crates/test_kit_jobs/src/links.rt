@@ -2,7 +2,7 @@
 
 ghost use Rattle.std.specs.Prelude.{false, ⊤};
 
-use linking::{Cannot, Link};
+use linking::{CannotTransfer, Link};
 use std::alloc::{AllocError, Global};
 use std::io::Read;
 
@@ -53,45 +53,45 @@ impl<'a> Wire<'a> {
     }
 
     /// Notes a move, except the one at which it fails.
-    fn note(&mut self, text: &str) -> Result<(), Cannot> {
+    fn note(&mut self, text: &str) -> Result<(), CannotTransfer> {
         if self.moves.len() == self.failing {
             self.failing = usize::MAX;
-            return Err(Cannot);
+            return Err(CannotTransfer);
         }
-        let text = String::from_str(self.alloc, text).map_err(|_| Cannot)?;
-        self.moves.push(text).map_err(|_| Cannot)
+        let text = String::from_str(self.alloc, text).map_err(|_| CannotTransfer)?;
+        self.moves.push(text).map_err(|_| CannotTransfer)
     }
 }
 
 impl Link for Wire<'_> {
-    ghost came = { λ _ _ _. ⊤ };
+    ghost received = { λ _ _ _. ⊤ };
 
     ghost sent = { λ _ _ _. ⊤ };
 
-    ghost told = { λ _ _ _. ⊤ };
+    ghost reported = { λ _ _ _. ⊤ };
 
     ghost unread = { λ _ _. ⊤ };
 
     ghost unsent = { λ _ _ _. ⊤ };
 
-    ghost untold = { λ _ _ _. ⊤ };
+    ghost unreported = { λ _ _ _. ⊤ };
 
     ghost lost = { λ _. false };
 
-    fn receive(&mut self, room: &mut [u8]) -> Result<usize, Cannot> {
+    fn receive(&mut self, room: &mut [u8]) -> Result<usize, CannotTransfer> {
         self.note(RECEIVED)?;
         let mut some = self.input.by_ref().take(self.most);
-        some.read(room).map_err(|_| Cannot)
+        some.read(room).map_err(|_| CannotTransfer)
     }
 
-    fn send(&mut self, bytes: &[u8]) -> Result<(), Cannot> {
-        let digits = hex::encode_upper(self.alloc, bytes).map_err(|_| Cannot)?;
-        let text = format!(in self.alloc; "sent {digits}\n").map_err(|_| Cannot)?;
+    fn send(&mut self, bytes: &[u8]) -> Result<(), CannotTransfer> {
+        let digits = hex::encode_upper(self.alloc, bytes).map_err(|_| CannotTransfer)?;
+        let text = format!(in self.alloc; "sent {digits}\n").map_err(|_| CannotTransfer)?;
         self.note(&text)
     }
 
-    fn tell(&mut self, text: &[u8]) -> Result<(), Cannot> {
-        let text = str::from_utf8(text).map_err(|_| Cannot)?;
+    fn tell(&mut self, text: &[u8]) -> Result<(), CannotTransfer> {
+        let text = str::from_utf8(text).map_err(|_| CannotTransfer)?;
         self.note(text)
     }
 

@@ -22,13 +22,13 @@ by_published (Some shown) p is = ap second is
 -- the generation of a slot is that of what is published for it
 of_slot : (n : Node) (h : History) (slot generation : ℕ) (programs : List (AcceptedValue × ℕ)) (o : Option (AcceptedValue × ℕ)) → slice_get programs slot ≡ o → Some generation ≡ generation_in o
     → AreProgramsOf n (published n h) programs → generation ≡ (published n h slot).1
-of_slot n h slot generation programs None is told are = absurd (cc told)
-of_slot n h slot generation programs (Some shown) is told are =
-    let same : generation ≡ shown.1 = cc told in
+of_slot n h slot generation programs None is reported are = absurd (cc reported)
+of_slot n h slot generation programs (Some shown) is reported are =
+    let same : generation ≡ shown.1 = cc reported in
     same ∙ (are slot shown is).generation
 
-pub generation_told : PublishedAgrees → (world : WorldValue) (slot generation : ℕ) → Some generation ≡ generation_in (slice_get world.programs slot)
+pub generation_reported : PublishedAgrees → (world : WorldValue) (slot generation : ℕ) → Some generation ≡ generation_in (slice_get world.programs slot)
     → (n : Node) (h : History) → IsWorldOf n h world → IsGenerationIn n h slot generation
-generation_told law world slot generation told n h of = λ publishes are.
+generation_reported law world slot generation reported n h of = λ publishes are.
     by_published (judging_program publishes slot) (published n h slot) (law n h publishes slot are)
-    ∙ ap (λ (g : ℕ). Some g) (sym (of_slot n h slot generation world.programs (slice_get world.programs slot) refl told of.programs_are))
+    ∙ ap (λ (g : ℕ). Some g) (sym (of_slot n h slot generation world.programs (slice_get world.programs slot) refl reported of.programs_are))

@@ -11,7 +11,7 @@ use Rattle.rmap.specs.Checks.{data_of, header_line}
 use Rattle.rmap.specs.Command.{command_of, discard_of}
 use Rattle.rmap.specs.Windows.{LiesInBank}
 use Rattle.bpf.specs.Program.{image_bytes}
-use Rattle.bpf_insn.specs.Spelling.{bytes_of}
+use Rattle.bpf_insn.specs.Spelling.{slot_bytes_of}
 use Rattle.bank.specs.Admission.{IsPlacedBy}
 use Rattle.bank.specs.Answer.{judged_line}
 use Rattle.bank.specs.Effect.{byte_after_data, memory_at}
@@ -20,7 +20,7 @@ use Rattle.node_parts.specs.Loads.{IsPrepared}
 use Rattle.sched.specs.Looking.{windows_in}
 use Rattle.lawful.specs.Sample.{IsSample, Sample, SampleIsLawful, sample_node, sample_staging}
 use Rattle.test_laws.proofs.SampleProgram.{is_program, justified, runs, stands}
-use Rattle.test_laws.specs.Sample.{no_maps, yes_program, packet, stage_bytes, load_bytes, read_bytes, wrong_bytes, this_sample, ThisSampleIsLawful}
+use Rattle.test_laws.specs.Sample.{sample_maps, yes_program, packet, stage_bytes, control_write_bytes, read_bytes, wrong_bytes, this_sample, ThisSampleIsLawful}
 
 -- ---- the packets
 
@@ -28,7 +28,7 @@ stage_command : discard_of stage_bytes ≡ None
 unfolding shifts
 stage_command = refl
 
-load_command : discard_of load_bytes ≡ None
+load_command : discard_of control_write_bytes ≡ None
 unfolding shifts
 load_command = refl
 
@@ -40,7 +40,7 @@ wrong_command : discard_of wrong_bytes ≡ None
 unfolding shifts
 wrong_command = refl
 
-load_judged : judged_line (command_of (packet load_bytes)) 0 ≡ None
+load_judged : judged_line (command_of (packet control_write_bytes)) 0 ≡ None
 unfolding shifts
 load_judged = refl
 
@@ -61,7 +61,7 @@ front = take-map-range_with_len staged_byte 0 (length (replicate {A = ℕ} STAGI
 
 -- its first 32 bytes spell the program
 image : map staged_byte (range_with_len 0 32) ≡ image_bytes yes_program
-unfolding image_bytes bytes_of
+unfolding image_bytes slot_bytes_of
 image = refl
 
 -- ---- all of it
@@ -94,13 +94,13 @@ module _ (home : Gv) where
     few = omega arith;
     is_program = is_program;
     spelled = front ∙ image;
-    justified = justified no_maps;
+    justified = justified sample_maps;
     sizes_are = refl;
   }
 
 pub is_sample : (home : Gv) → IsSample (this_sample home)
 is_sample home = record {
-  justified = justified no_maps;
+  justified = justified sample_maps;
   runs = runs;
   stands = stands;
   stage = stage_placed home;
@@ -116,5 +116,5 @@ is_sample home = record {
 
 pub lawful_sample : SampleIsLawful → ThisSampleIsLawful
 lawful_sample law home =
-    let told = law (this_sample home) (is_sample home) in
-    record { is = is_sample home; together = told.0; history = told.1; wrong = told.2 }
+    let reported = law (this_sample home) (is_sample home) in
+    record { is = is_sample home; together = reported.0; history = reported.1; wrong = reported.2 }

@@ -20,7 +20,7 @@ use Rattle.absdom.specs.declared.kinds.AbsKind.{AbsKind}
 use Rattle.absdom.specs.declared.kinds.AbsKind.TheVariants.{Num, Unset}
 use Rattle.absdom_stack.specs.Spill.{spill_of}
 use Rattle.absdom_stack.specs.StackWords.{all_whole, range_in}
-use Rattle.absdom.specs.State.{IsBelow, IsEntry, IsProper, IsWhole, StateValue, entry_kinds}
+use Rattle.absdom.specs.State.{IsStateBelow, IsEntry, IsProper, IsWhole, StateValue, entry_kinds}
 use Rattle.bver_form.specs.Form.{IsAllowed}
 use Rattle.bver_form.specs.Loops.{IsLoopFormed}
 use Rattle.bver.specs.Justified.{IsHead, IsJustified, IsPermittedAt}
@@ -72,7 +72,7 @@ is_entry : IsEntry entry
 unfolding entry no_marks
 is_entry = record { kinds = refl; marks = unmarked 512; ranges = whole_word }
 
-entry_below : IsBelow entry (known Unset)
+entry_below : IsStateBelow entry (known Unset)
 unfolding entry answer_kinds
 entry_below = record {
   kinds = each_below entry_kinds (answer_kinds Unset) (tt, (tt, (tt, (tt, (tt, (tt, (tt, (tt, (tt, (tt, (tt, tt)))))))))));
@@ -81,7 +81,7 @@ entry_below = record {
 }
 
 -- a number in r0 is among all numbers
-answered : (range : Range) → IsWithin range (whole_range Bits64) → IsBelow (known (Num range)) (known number)
+answered : (range : Range) → IsWithin range (whole_range Bits64) → IsStateBelow (known (Num range)) (known number)
 unfolding answer_kinds
 answered range within = record {
   kinds = each_below (answer_kinds (Num range)) (answer_kinds number) (within, (tt, (tt, (tt, (tt, (tt, (tt, (tt, (tt, (tt, (tt, tt)))))))))));

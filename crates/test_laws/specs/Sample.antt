@@ -21,8 +21,8 @@ abbrev pub packet : List ℕ → Cargo
 packet bytes = record { bytes = bytes; end = Eop }
 
 -- no maps
-abbrev pub no_maps : Maps
-no_maps = record { cells = []; kinds = [] }
+abbrev pub sample_maps : Maps
+sample_maps = record { cells = []; kinds = [] }
 
 -- `mov r0, 0; exit`, in version 1 of the format and with a budget of eight steps
 abbrev pub yes_program : Program
@@ -30,7 +30,7 @@ yes_program = program One 8 [] (Some (Alu Mov Bits64 0 (Immediate (pos 0))) ∷ 
 
 -- it is accepted for a node without maps, and accesses no memory
 abbrev pub yes_accepted : AcceptedValue
-yes_accepted = record { program = yes_program; sizes = no_maps; regions = None ∷ None ∷ [] }
+yes_accepted = record { program = yes_program; sizes = sample_maps; regions = None ∷ None ∷ [] }
 
 -- a write of the program's image to the beginning of staging, with reply and increment. First comes its header, then
 -- the 16 bytes of the image's header, then its two instructions and the data CRC
@@ -41,8 +41,8 @@ stage_bytes =
     ∷ 183 ∷ 0 ∷ 0 ∷ 0 ∷ 0 ∷ 0 ∷ 0 ∷ 0 ∷ 149 ∷ 0 ∷ 0 ∷ 0 ∷ 0 ∷ 0 ∷ 0 ∷ 0 ∷ 170 ∷ []
 
 -- the control write that loads those 32 bytes into the slot of reads
-abbrev pub load_bytes : List ℕ
-load_bytes = 254 ∷ 1 ∷ 108 ∷ 0 ∷ 103 ∷ 0 ∷ 0 ∷ 255 ∷ 0 ∷ 1 ∷ 0 ∷ 0 ∷ 0 ∷ 0 ∷ 4 ∷ 61 ∷ 0 ∷ 0 ∷ 0 ∷ 32 ∷ 56 ∷ []
+abbrev pub control_write_bytes : List ℕ
+control_write_bytes = 254 ∷ 1 ∷ 108 ∷ 0 ∷ 103 ∷ 0 ∷ 0 ∷ 255 ∷ 0 ∷ 1 ∷ 0 ∷ 0 ∷ 0 ∷ 0 ∷ 4 ∷ 61 ∷ 0 ∷ 0 ∷ 0 ∷ 32 ∷ 56 ∷ []
 
 -- a read of the first four bytes of the bank
 abbrev pub read_bytes : List ℕ
@@ -58,7 +58,7 @@ this_sample home = record {
   program = yes_accepted;
   home = home;
   stage = packet stage_bytes;
-  load = packet load_bytes;
+  load = packet control_write_bytes;
   read = packet read_bytes;
   wrong = packet wrong_bytes;
   status = InvalidLogicalAddress;

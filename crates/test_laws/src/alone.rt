@@ -1,10 +1,10 @@
 //! Runs of a node of one thread.
 
 ghost use Rattle.std.specs.Prelude.{◌≡◌, IfOk};
-ghost use Rattle.test_laws.specs.Runs.{KeepsQuotasAlone, TakesLoad, TellsRefusal};
+ghost use Rattle.test_laws.specs.Runs.{KeepsQuotasAlone, ServesLoad, ServesRefusal};
 
 use bver::Accepted;
-use node_parts::{NodeConfig, Served, loads_are_taken, refusals_tell_why};
+use node_parts::{NodeConfig, Served, loads_are_taken, refusals_say_why};
 use quotas::quotas_hold_alone;
 use rmap::{ReplyBuf, Status};
 use single_node::SingleNode;
@@ -63,15 +63,15 @@ fn is_success(served: Served) -> bool {
 /// # Errors
 ///
 /// It fails at a node without a port.
-pub fn told(
+pub fn reported(
     alloc: Global,
     node: &mut SingleNode,
     sent: Packet,
     reply: &mut ReplyBuf,
 ) -> Result<Served, Fail>
-    ensures { IfOk result (λ served. TellsRefusal served 0 sent node.old node.new reply.new) }
+    ensures { IfOk result (λ served. ServesRefusal served 0 sent node.old node.new reply.new) }
 {
-    refusals_tell_why();
+    refusals_say_why();
     if node.ports() == 0 {
         return Err("no port".into());
     }
@@ -91,10 +91,10 @@ pub fn taken(
     second: Packet,
     reply: &mut ReplyBuf,
 ) -> Result<Served, Fail>
-    ensures { IfOk result (λ served. TakesLoad served 0 second node.old node.new reply.new) }
+    ensures { IfOk result (λ served. ServesLoad served 0 second node.old node.new reply.new) }
 {
     loads_are_taken();
-    told(alloc, node, first, reply)?;
+    reported(alloc, node, first, reply)?;
     if node.ports() == 0 {
         return Err("no port".into());
     }

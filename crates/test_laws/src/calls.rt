@@ -2,11 +2,11 @@
 
 ghost use Rattle.std.specs.Prelude.{◌≡◌, IsTrue};
 ghost use Rattle.machine.specs.Sizes.{kind_of_map};
-ghost use Rattle.loading.specs.Told.{LoadsAreTold};
+ghost use Rattle.loading.specs.Reported.{LoadsAreReported};
 
 use bank::{Entry, replay};
 use cells::Cells;
-use loading::loads_are_told;
+use loading::loads_are_reported;
 use machine::{MapKind, MapSizes};
 use single_node::SingleNode;
 use std::alloc::{AllocError, Global};
@@ -61,12 +61,12 @@ pub fn fresh_cell(
 }
 
 /// Whether a node has the port. If it does, loads come there to what the law of loads says.
-pub fn loads_told(node: &SingleNode, port: u8) -> bool
-    ensures { IsTrue result → LoadsAreTold port node.now }
+pub fn loads_reported(node: &SingleNode, port: u8) -> bool
+    ensures { IsTrue result → LoadsAreReported port node.now }
 {
     if port >= node.ports() {
         return false;
     }
-    loads_are_told(node, port);
+    loads_are_reported(node, port);
     true
 }

@@ -9,8 +9,8 @@ mod samples;
 mod schedules;
 mod workers;
 
-pub use alone::{served_alone, taken, told};
-pub use calls::{fresh_cell, loads_told, remade};
+pub use alone::{served_alone, taken, reported};
+pub use calls::{fresh_cell, loads_reported, remade};
 pub use samples::a_sample_is_lawful;
 pub use schedules::{generation, ran};
 pub use workers::accounted;

@@ -4,7 +4,7 @@ ghost use Rattle.std.specs.Prelude.{◌≡◌, ◌<◌, IfOk};
 ghost use Rattle.sched.specs.History.{History};
 ghost use Rattle.sched.specs.Looking.{Node};
 ghost use Rattle.sched.specs.Worlds.{IsWorldOf, node_of};
-ghost use Rattle.test_laws.specs.Runs.{HasRun, IsGenerationIn};
+ghost use Rattle.test_laws.specs.Runs.{HasScheduleRun, IsGenerationIn};
 
 use bpf::Image;
 use node_parts::NodeConfig;
@@ -25,7 +25,7 @@ pub fn ran(
     events: Vec<Event>,
 ) -> Result<(World, Vec<Outcome>), WorldFault>
     ensures { IfOk result
-        (λ ran. HasRun (node_of config.now factory.now) events.items ran.1.items ran.0) }
+        (λ ran. HasScheduleRun (node_of config.now factory.now) events.items ran.1.items ran.0) }
 {
     quotas_hold();
     let ran = run_schedule(alloc, config, factory, events)?;

@@ -13,7 +13,7 @@ use Rattle.bpf.specs.Program.{AreLoops, AreSlots, IsProgram, Program}
 use Rattle.bpf.specs.declared.version.Version.{Version}
 use Rattle.bpf.specs.declared.version.Version.TheVariants.{One, Two}
 use Rattle.basm.specs.Printed.{budget_line, loop_line, printed_image, slot_line, version_line}
-use Rattle.basm.specs.Relation.{Defines, IsText, IsVersionOf, Item, budget_in, insn_in, loop_in, version_in}
+use Rattle.basm.specs.Relation.{Defines, IsText, IsVersionOf, Item, budget_in, insn_in, loop_in_line, version_in}
 use Rattle.basm.specs.Relation.Item.{Nothing, OneVersion, Budget, OneLoop, Code}
 use Rattle.basm.proofs.Printed.Insns.{PrintedWords}
 use Rattle.basm.proofs.Printed.Items.{ArePrinted, item_line, lines_say, no_names, text_of}
@@ -32,12 +32,12 @@ version_items One rest = rest
 version_items Two rest = OneVersion Two ∷ rest
 
 -- the items after the version
-abbrev items_behind : Program → List Item
-items_behind p = Budget p.budget ∷ loop_items p.loops (slot_items p.slots)
+abbrev items_after : Program → List Item
+items_after p = Budget p.budget ∷ loop_items p.loops (slot_items p.slots)
 
 -- what the lines of a printed image say
 abbrev items_of : Program → List Item
-items_of p = version_items p.version (items_behind p)
+items_of p = version_items p.version (items_after p)
 
 -- ---- the text is that of the items
 
@@ -88,7 +88,7 @@ image_printed p =
     ∙ ap (λ more. item_line (Budget p.budget) ++ 10 ∷ more)
     (ap (λ code. flat_map loop_line p.loops ++ code) (slots_printed p.slots) ∙ loops_printed p.loops (slot_items p.slots))
     )
-    ∙ version_printed p.version (items_behind p)
+    ∙ version_printed p.version (items_after p)
 
 -- ---- each item is one that is printed
 
@@ -109,7 +109,7 @@ versions_printed slots Two rest are = (tt, are)
 
 are_printed : (p : Program) → IsProgram p → ArePrinted (length p.slots) (items_of p)
 are_printed p is =
-    versions_printed (length p.slots) p.version (items_behind p)
+    versions_printed (length p.slots) p.version (items_after p)
     (is.budget, are_loops (length p.slots) 0 p.loops (slot_items p.slots) is.loops (are_slots (length p.slots) false p.slots is.code))
 
 -- ---- version, budget, loops and instructions of the items
@@ -128,16 +128,16 @@ version_again One rest none = let P : List Version → Type 0 = λ declared. IsV
 version_again Two rest none = let P : List Version → Type 0 = λ more. IsVersionOf (Two ∷ more) Two in subst P (sym none) refl
 
 -- a version declares nothing else
-behind_version : {X : Type 0} (f : Item → List X) (version : Version) (rest : List Item) → f (OneVersion version) ≡ [] → flat_map f (version_items version rest ++ Nothing ∷ []) ≡ flat_map f (rest ++ Nothing ∷ [])
-behind_version f One rest none = refl
-behind_version f Two rest none = ap (λ front. front ++ flat_map f (rest ++ Nothing ∷ [])) none
+after_version : {X : Type 0} (f : Item → List X) (version : Version) (rest : List Item) → f (OneVersion version) ≡ [] → flat_map f (version_items version rest ++ Nothing ∷ []) ≡ flat_map f (rest ++ Nothing ∷ [])
+after_version f One rest none = refl
+after_version f Two rest none = ap (λ front. front ++ flat_map f (rest ++ Nothing ∷ [])) none
 
 slots_no_budget : (xs : List (Option Insn)) → flat_map budget_in (slot_items xs ++ Nothing ∷ []) ≡ []
 slots_no_budget [] = refl
 slots_no_budget (None ∷ xs) = slots_no_budget xs
 slots_no_budget (Some insn ∷ xs) = slots_no_budget xs
 
-slots_no_loop : (xs : List (Option Insn)) → flat_map loop_in (slot_items xs ++ Nothing ∷ []) ≡ []
+slots_no_loop : (xs : List (Option Insn)) → flat_map loop_in_line (slot_items xs ++ Nothing ∷ []) ≡ []
 slots_no_loop [] = refl
 slots_no_loop (None ∷ xs) = slots_no_loop xs
 slots_no_loop (Some insn ∷ xs) = slots_no_loop xs
@@ -146,7 +146,7 @@ loops_no_budget : (ls : List Loop) (xs : List (Option Insn)) → flat_map budget
 loops_no_budget [] xs = slots_no_budget xs
 loops_no_budget (l ∷ ls) xs = loops_no_budget ls xs
 
-loops_again : (ls : List Loop) (xs : List (Option Insn)) → flat_map loop_in (loop_items ls (slot_items xs) ++ Nothing ∷ []) ≡ ls
+loops_again : (ls : List Loop) (xs : List (Option Insn)) → flat_map loop_in_line (loop_items ls (slot_items xs) ++ Nothing ∷ []) ≡ ls
 loops_again [] xs = slots_no_loop xs
 loops_again (l ∷ ls) xs = ap (λ more. l ∷ more) (loops_again ls xs)
 
@@ -178,10 +178,10 @@ printed_items laws p is =
       lines = lines_say laws (λ name. None) (length p.slots) 0 is.slots.1 (items_of p) printed;
       defined = rw none no_definition;
       apart = rw none tt;
-      version = version_again p.version (items_behind p) (loops_no_version p.loops p.slots);
-      budget = behind_version budget_in p.version (items_behind p) refl ∙ ap (λ more. p.budget ∷ more) (loops_no_budget p.loops p.slots);
-      loops = rw (behind_version loop_in p.version (items_behind p) refl ∙ loops_again p.loops p.slots) (IsPermutation-refl p.loops);
-      code = sym (ap (flat_map placed_slots) (behind_version insn_in p.version (items_behind p) refl ∙ loops_no_code p.loops (slot_items p.slots)) ∙ slots_again false p.slots is.code);
+      version = version_again p.version (items_after p) (loops_no_version p.loops p.slots);
+      budget = after_version budget_in p.version (items_after p) refl ∙ ap (λ more. p.budget ∷ more) (loops_no_budget p.loops p.slots);
+      loops = rw (after_version loop_in_line p.version (items_after p) refl ∙ loops_again p.loops p.slots) (IsPermutation-refl p.loops);
+      code = sym (ap (flat_map placed_slots) (after_version insn_in p.version (items_after p) refl ∙ loops_no_code p.loops (slot_items p.slots)) ∙ slots_again false p.slots is.code);
       program = is;
     }
 

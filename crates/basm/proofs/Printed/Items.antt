@@ -9,8 +9,8 @@ use Rattle.bpf.specs.declared.version.Version.{Version}
 use Rattle.bpf.specs.declared.version.Version.TheVariants.{One, Two}
 use Rattle.bpf.specs.Program.{IsBudget, IsLoop}
 use Rattle.bpf.specs.Version.{version_number}
-use Rattle.basm_lex.specs.Lines.{code_of, operands_of, rest_of, word_of}
-use Rattle.basm.specs.Relation.{AreLines, IsLine, Item, slots_in, names_from}
+use Rattle.basm_lex.specs.Lines.{code_of, operands_of, rest_of_line, word_of}
+use Rattle.basm.specs.Relation.{AreLines, IsLine, Item, line_slots_in, names_from}
 use Rattle.basm.specs.Relation.Item.{Nothing, Label, OneVersion, Budget, OneLoop, Code}
 use Rattle.basm_lex.specs.Printed.{AreWords, IsWord}
 use Rattle.basm.proofs.Printed.Insns.{PrintedWords, operands_write}
@@ -111,7 +111,7 @@ text_of [] = []
 text_of (item ∷ items) = item_line item ++ 10 ∷ text_of items
 
 nothing_said : (names : List ℕ → Option ℕ) (slot : ℕ) → IsLine names slot [] Nothing
-unfolding word_of rest_of code_of
+unfolding word_of rest_of_line code_of
 nothing_said names slot = (refl, refl)
 
 pub lines_say : PrintedWords → (names : List ℕ → Option ℕ) (slots slot : ℕ) → slots ≤ 512 → (items : List Item) → ArePrinted slots items
@@ -120,7 +120,7 @@ lines_say laws names slots slot few [] are = (nothing_said names slot, tt)
 lines_say laws names slots slot few (item ∷ items) are =
     let parts = laws.line (item_name item) (item_operands item) (text_of items) (item_word laws slots item are.0) (item_words laws slots few item are.0) in
     subst (λ lines. AreLines names slot lines (item ∷ (items ++ Nothing ∷ []))) (sym parts)
-    (line_says laws names slots slot few item are.0, lines_say laws names slots (slot + slots_in item) few items are.1)
+    (line_says laws names slots slot few item are.0, lines_say laws names slots (slot + line_slots_in item) few items are.1)
 
 -- no label is printed
 pub no_names : (slots slot : ℕ) (items : List Item) → ArePrinted slots items → names_from slot (items ++ Nothing ∷ []) ≡ []
@@ -130,4 +130,4 @@ no_names slots slot (Label name ∷ items) are = absurd are.0
 no_names slots slot (OneVersion version ∷ items) are = no_names slots (slot + 0) items are.1
 no_names slots slot (Budget n ∷ items) are = no_names slots (slot + 0) items are.1
 no_names slots slot (OneLoop l ∷ items) are = no_names slots (slot + 0) items are.1
-no_names slots slot (Code insn ∷ items) are = no_names slots (slot + slots_in (Code insn)) items are.1
+no_names slots slot (Code insn ∷ items) are = no_names slots (slot + line_slots_in (Code insn)) items are.1

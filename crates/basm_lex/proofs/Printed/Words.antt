@@ -4,7 +4,7 @@ use Rattle.std.specs.Prelude.{◌==◌, not, codes}
 use Rattle.std.specs.List.{after_first, before_first, slice_split}
 use Rattle.std.proofs.lemmas.Bool.{and_parts}
 use Rattle.bpf_insn.specs.Text.{more_operands, name_with_operands}
-use Rattle.basm_lex.specs.Lines.{code_of, without_trailing_spaces, is_comma, is_semicolon, is_space, operands_of, rest_of, parts_between_commas, without_leading_spaces, trimmed_text, trailing_part, word_of}
+use Rattle.basm_lex.specs.Lines.{code_of, without_trailing_spaces, is_comma, is_semicolon, is_space, operands_of, rest_of_line, parts_between_commas, without_leading_spaces, trimmed_text, trailing_part, word_of}
 use Rattle.basm_lex.specs.Printed.{AreWords, IsWord, is_plain}
 use Rattle.basm_lex.proofs.Printed.Plain.{ArePlain, plain_word}
 use Rattle.basm_lex.proofs.Printed.Splits.{AllFail, after_at, after_none, before_at, before_none, fail_append, split_at, split_none}
@@ -133,12 +133,12 @@ word_written name (x ∷ xs) is words =
 
 -- ---- its operands
 
-rest_none : (name : List ℕ) → IsWord name → rest_of (name_with_operands name []) ≡ []
-unfolding rest_of
+rest_none : (name : List ℕ) → IsWord name → rest_of_line (name_with_operands name []) ≡ []
+unfolding rest_of_line
 rest_none name is = ap (after_first is_space) (code_written name [] is tt) ∙ after_none is_space name (fails_space name is)
 
-rest_some : (name x : List ℕ) (xs : List (List ℕ)) → IsWord name → AreWords (x ∷ xs) → rest_of (name_with_operands name (x ∷ xs)) ≡ x ++ more_operands xs
-unfolding rest_of
+rest_some : (name x : List ℕ) (xs : List (List ℕ)) → IsWord name → AreWords (x ∷ xs) → rest_of_line (name_with_operands name (x ∷ xs)) ≡ x ++ more_operands xs
+unfolding rest_of_line
 rest_some name x xs is words =
     ap (after_first is_space) (code_written name (x ∷ xs) is words ∙ written_some name x xs)
     ∙ after_at is_space name 32 (x ++ more_operands xs) (fails_space name is) refl

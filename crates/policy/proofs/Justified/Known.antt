@@ -19,7 +19,7 @@ use Rattle.absdom.specs.Effect.{load_kind, with_stored}
 use Rattle.absdom_stack.specs.declared.spill.Spill.TheVariants.{Forgets}
 use Rattle.absdom_stack.specs.Marks.{all_marked, mark_at, marks_after}
 use Rattle.absdom_stack.specs.StackWords.{all_whole, is_touched, range_in, widened_from}
-use Rattle.absdom.specs.State.{IsBelow, IsEntry, IsProper, IsWhole, StateValue, entry_kinds}
+use Rattle.absdom.specs.State.{IsStateBelow, IsEntry, IsProper, IsWhole, StateValue, entry_kinds}
 use Rattle.absdom.proofs.KindLists.{number, each_below, same_range, each_proper, many_words, proper_number, unmarked, whole_word}
 
 -- ---- states
@@ -93,14 +93,14 @@ same_frame = (refl, record { above = omega arith; below = omega arith })
 
 pub below : (held : Bool) {j0 j1 j2 j6 j7 j8 j9 k0 k1 k2 k6 k7 k8 k9 : AbsKind}
     → IsKindBelow j0 k0 → IsKindBelow j1 k1 → IsKindBelow j2 k2 → IsKindBelow j6 k6 → IsKindBelow j7 k7 → IsKindBelow j8 k8 → IsKindBelow j9 k9
-    → IsBelow (known held j0 j1 j2 j6 j7 j8 j9) (known held k0 k1 k2 k6 k7 k8 k9)
+    → IsStateBelow (known held j0 j1 j2 j6 j7 j8 j9) (known held k0 k1 k2 k6 k7 k8 k9)
 below held {j0 = j0} {j1 = j1} {j2 = j2} {j6 = j6} {j7 = j7} {j8 = j8} {j9 = j9} {k0 = k0} {k1 = k1} {k2 = k2} {k6 = k6} {k7 = k7} {k8 = k8} {k9 = k9} h0 h1 h2 h6 h7 h8 h9 = record {
   kinds = each_below (listed j0 j1 j2 Unset j6 j7 j8 j9) (listed k0 k1 k2 Unset k6 k7 k8 k9) (h0, (h1, (h2, (tt, (tt, (tt, (h6, (h7, (h8, (h9, (same_frame, tt)))))))))));
   marks = λ place h. h;
   ranges = λ word. same_range (range_in all_whole word);
 }
 
-pub below_in_rules : (held : Bool) {j0 j1 j2 k0 k1 k2 : AbsKind} → IsKindBelow j0 k0 → IsKindBelow j1 k1 → IsKindBelow j2 k2 → IsBelow (in_rules held j0 j1 j2) (in_rules held k0 k1 k2)
+pub below_in_rules : (held : Bool) {j0 j1 j2 k0 k1 k2 : AbsKind} → IsKindBelow j0 k0 → IsKindBelow j1 k1 → IsKindBelow j2 k2 → IsStateBelow (in_rules held j0 j1 j2) (in_rules held k0 k1 k2)
 below_in_rules held h0 h1 h2 = below held h0 h1 h2 same_front same_tail same_number same_number
 
 -- ---- they are states
@@ -153,7 +153,7 @@ entered true = record { kinds = listed Unset front tail number Unset Unset Unset
 small_port : IsKindBelow (Num (0, 31)) number
 small_port = record { above = omega arith; below = omega arith }
 
-pub entry_below : (held : Bool) → IsBelow entry (entered held)
+pub entry_below : (held : Bool) → IsStateBelow entry (entered held)
 unfolding entry
 entry_below false = record {
   kinds = each_below entry_kinds (listed Unset front tail Unset Unset Unset Unset Unset) (tt, (same_front, (same_tail, (tt, (tt, (tt, (tt, (tt, (tt, (tt, (same_frame, tt)))))))))));
@@ -188,7 +188,7 @@ widened_whole (suc count) word first last zero = still_whole (is_touched word fi
 widened_whole (suc count) word first last (suc k) = widened_whole count (suc word) first last k
 
 -- the port goes there
-pub kept_below : IsBelow (with_stored Forgets (entered true) 1 (511, 511) (whole_range Bits64)) (known true Unset front tail Unset Unset Unset Unset)
+pub kept_below : IsStateBelow (with_stored Forgets (entered true) 1 (511, 511) (whole_range Bits64)) (known true Unset front tail Unset Unset Unset Unset)
 unfolding marks_after port_marks all_whole
 kept_below = record {
   kinds = each_below (listed Unset front tail number Unset Unset Unset Unset) (listed Unset front tail Unset Unset Unset Unset Unset) (tt, (same_front, (same_tail, (tt, (tt, (tt, (tt, (tt, (tt, (tt, (same_frame, tt)))))))))));

@@ -24,8 +24,8 @@ use Rattle.absdom.specs.declared.kinds.AbsKind.TheVariants.{Map}
 use Rattle.absdom.specs.Edges.{Edges, refined_edges}
 use Rattle.absdom_stack.specs.declared.spill.Spill.TheVariants.{Forgets}
 use Rattle.absdom.specs.Effect.{after_insn, alu_kind, load_kind, map_kind, operand_kind, with_result}
-use Rattle.absdom.specs.Laws.{AreEdgesBelow, BelowIsReflexive, BelowIsTransitive, RefineShrinks}
-use Rattle.absdom.specs.State.{IsBelow, IsWhole, StateValue, kind_at, with_kind}
+use Rattle.absdom.specs.Laws.{AreEdgesBelow, BelowIsReflexive, BelowIsTransitive, StateRefineShrinks}
+use Rattle.absdom.specs.State.{IsStateBelow, IsWhole, StateValue, kind_at, with_kind}
 use Rattle.bver_form.specs.Jumps.{jump_distance}
 use Rattle.bver_form.specs.Support.{IsSupported, LeavesFrame}
 use Rattle.bver.specs.Justified.{AreEdgesCovered, IsCovered, IsCoveredIfAny, IsPermitted, IsResultCovered}
@@ -35,16 +35,16 @@ use Rattle.policy.proofs.Justified.Served.{AreServed, IsEndedBy, IsServedAt, Kno
 
 -- slots are justified from one to their end, with what is known at the first of them and at the slot `behind` slots
 -- further on
-pub record IsJustifiedFrom (sizes : Maps) (first : StateValue) (behind : ℕ) (there : Option StateValue) (slots : List (Option Insn)) : Type 0 where
+pub record IsJustifiedFrom (sizes : Maps) (first : StateValue) (following : ℕ) (there : Option StateValue) (slots : List (Option Insn)) : Type 0 where
   pub table : Knowledge
   pub served : AreServed sizes table slots
   pub ended : IsEndedBy slots Exit
   pub here : table 0 ≡ Some first
-  pub further : table behind ≡ there
+  pub further : table following ≡ there
 
-pub counted : (sizes : Maps) (first : StateValue) (behind other : ℕ) (there : Option StateValue) (slots : List (Option Insn)) → behind ≡ other
-    → IsJustifiedFrom sizes first behind there slots → IsJustifiedFrom sizes first other there slots
-counted sizes first behind other there slots same h = record {
+pub counted : (sizes : Maps) (first : StateValue) (following other : ℕ) (there : Option StateValue) (slots : List (Option Insn)) → following ≡ other
+    → IsJustifiedFrom sizes first following there slots → IsJustifiedFrom sizes first other there slots
+counted sizes first following other there slots same h = record {
   table = h.table;
   served = h.served;
   ended = h.ended;
@@ -54,10 +54,10 @@ counted sizes first behind other there slots same h = record {
 
 -- ---- one instruction more
 
-module _ (sizes : Maps) (a next : StateValue) (behind : ℕ) (there : Option StateValue) (slots : List (Option Insn)) (whole : IsWhole a) where
+module _ (sizes : Maps) (a next : StateValue) (following : ℕ) (there : Option StateValue) (slots : List (Option Insn)) (whole : IsWhole a) where
   pub one_before : (insn : Insn) → ((table : Knowledge) → table 1 ≡ Some next → IsPermitted Forgets sizes table 0 a insn)
       → IsSupported One insn → LeavesFrame insn → jump_distance insn ≡ None
-      → IsJustifiedFrom sizes next behind there slots → IsJustifiedFrom sizes a (suc behind) there (Some insn ∷ slots)
+      → IsJustifiedFrom sizes next following there slots → IsJustifiedFrom sizes a (suc following) there (Some insn ∷ slots)
   one_before insn permits supported leaves_frame straight rest =
       let table : Knowledge = before (Some a) rest.table in
       let here : IsServedAt sizes table (Some insn ∷ slots) 0 (Some a) (Some insn) = record {
@@ -76,21 +76,21 @@ module _ (sizes : Maps) (a next : StateValue) (behind : ℕ) (there : Option Sta
       }
 
   pub load_before : (size : LoadSize) (dst base offset : ℕ) → (dst == 10) ≡ false → IsResultCovered (with_result a dst (load_kind Forgets a size (kind_at a base) (pos offset))) (Some next)
-      → IsJustifiedFrom sizes next behind there slots → IsJustifiedFrom sizes a (suc behind) there (Some (loaded size dst base offset) ∷ slots)
+      → IsJustifiedFrom sizes next following there slots → IsJustifiedFrom sizes a (suc following) there (Some (loaded size dst base offset) ∷ slots)
   load_before size dst base offset other covered rest =
       one_before (loaded size dst base offset)
       (λ table is. subst (λ (o : Option StateValue). IsResultCovered (after_insn Forgets a (loaded size dst base offset)) o) (sym is) covered)
       tt (eqb-false dst 10 other) refl rest
 
   pub alu_before : (op : AluOp) (width : Width) (dst : ℕ) (src : Operand) → (dst == 10) ≡ false → IsResultCovered (with_result a dst (alu_kind op width (kind_at a dst) (operand_kind a src))) (Some next)
-      → IsJustifiedFrom sizes next behind there slots → IsJustifiedFrom sizes a (suc behind) there (Some (Alu op width dst src) ∷ slots)
+      → IsJustifiedFrom sizes next following there slots → IsJustifiedFrom sizes a (suc following) there (Some (Alu op width dst src) ∷ slots)
   alu_before op width dst src other covered rest =
       one_before (Alu op width dst src)
       (λ table is. subst (λ (o : Option StateValue). IsResultCovered (after_insn Forgets a (Alu op width dst src)) o) (sym is) covered)
       tt (eqb-false dst 10 other) refl rest
 
   pub swap_before : (dst : ℕ) → (dst == 10) ≡ false → IsResultCovered (after_insn Forgets a (swapped dst)) (Some next)
-      → IsJustifiedFrom sizes next behind there slots → IsJustifiedFrom sizes a (suc behind) there (Some (swapped dst) ∷ slots)
+      → IsJustifiedFrom sizes next following there slots → IsJustifiedFrom sizes a (suc following) there (Some (swapped dst) ∷ slots)
   swap_before dst other covered rest =
       one_before (swapped dst)
       (λ table is. subst (λ (o : Option StateValue). IsResultCovered (after_insn Forgets a (swapped dst)) o) (sym is) covered)
@@ -98,7 +98,7 @@ module _ (sizes : Maps) (a next : StateValue) (behind : ℕ) (there : Option Sta
 
   -- the port is put on the stack
   pub store_before : IsResultCovered (after_insn Forgets a port_kept) (Some next)
-      → IsJustifiedFrom sizes next behind there slots → IsJustifiedFrom sizes a (suc behind) there (Some port_kept ∷ slots)
+      → IsJustifiedFrom sizes next following there slots → IsJustifiedFrom sizes a (suc following) there (Some port_kept ∷ slots)
   store_before covered rest =
       one_before port_kept
       (λ table is. subst (λ (o : Option StateValue). IsResultCovered (after_insn Forgets a port_kept) o) (sym is) covered)
@@ -106,7 +106,7 @@ module _ (sizes : Maps) (a next : StateValue) (behind : ℕ) (there : Option Sta
 
   -- the load of the port from there
   pub port_before : IsResultCovered (with_result a 0 (load_kind Forgets a LoadByte (kind_at a 10) (negsuc 0))) (Some next)
-      → IsJustifiedFrom sizes next behind there slots → IsJustifiedFrom sizes a (suc behind) there (Some port_loaded ∷ slots)
+      → IsJustifiedFrom sizes next following there slots → IsJustifiedFrom sizes a (suc following) there (Some port_loaded ∷ slots)
   port_before covered rest =
       one_before port_loaded
       (λ table is. subst (λ (o : Option StateValue). IsResultCovered (after_insn Forgets a port_loaded) o) (sym is) covered)
@@ -123,12 +123,12 @@ none_served sizes slot = tt
 -- with the port on the stack, or without
 module _ (held : Bool) where
   -- up to the next rule, which begins `behind` slots further on
-  abbrev pub IsJustifiedTo : (sizes : Maps) (first : StateValue) (behind : ℕ) (slots : List (Option Insn)) → Type 0
-  IsJustifiedTo sizes first behind slots = IsJustifiedFrom sizes first behind (Some (between held)) slots
+  abbrev pub IsJustifiedTo : (sizes : Maps) (first : StateValue) (following : ℕ) (slots : List (Option Insn)) → Type 0
+  IsJustifiedTo sizes first following slots = IsJustifiedFrom sizes first following (Some (between held)) slots
 
   -- a rule begins here
-  pub begun : (sizes : Maps) (behind : ℕ) (there : Option StateValue) (slots : List (Option Insn)) → IsJustifiedFrom sizes (between held) behind there slots → IsJustifiedTo sizes (between held) 0 slots
-  begun sizes behind there slots h = record {
+  pub begun : (sizes : Maps) (following : ℕ) (there : Option StateValue) (slots : List (Option Insn)) → IsJustifiedFrom sizes (between held) following there slots → IsJustifiedTo sizes (between held) 0 slots
+  begun sizes following there slots h = record {
     table = h.table;
     served = h.served;
     ended = h.ended;
@@ -139,11 +139,11 @@ module _ (held : Bool) where
   -- ---- comparisons
 
   -- what is known on an edge of a comparison is covered by what is known at a comparison, or less
-  edge_covered : BelowIsTransitive → (next : StateValue) → IsBelow (comparing held) next → (edge : Option StateValue) → IfSome edge (λ a. IsBelow a (comparing held)) → IsCoveredIfAny edge (Some next)
+  edge_covered : BelowIsTransitive → (next : StateValue) → IsStateBelow (comparing held) next → (edge : Option StateValue) → IfSome edge (λ a. IsStateBelow a (comparing held)) → IsCoveredIfAny edge (Some next)
   edge_covered transitive next less None h = tt
   edge_covered transitive next less (Some a) h = transitive a (comparing held) next h less
 
-  edges_covered : BelowIsTransitive → (next : StateValue) → IsBelow (comparing held) next → (r : Result Edges Cause) → IsOk r → IfOk r (λ edges. AreEdgesBelow edges (comparing held)) → AreEdgesCovered r (Some (between held)) (Some next)
+  edges_covered : BelowIsTransitive → (next : StateValue) → IsStateBelow (comparing held) next → (r : Result Edges Cause) → IsOk r → IfOk r (λ edges. AreEdgesBelow edges (comparing held)) → AreEdgesCovered r (Some (between held)) (Some next)
   edges_covered transitive next less (Ok edges) ok h =
       (edge_covered transitive (between held) (below_in_rules held tt tt tt) edges.taken h.taken, edge_covered transitive next less edges.not_taken h.not_taken)
   edges_covered transitive next less (Err cause) ok h = cc
@@ -159,22 +159,22 @@ module _ (held : Bool) where
   one_more n = omega arith
 
   -- a comparison that leads to the next rule
-  pub test_before : BelowIsTransitive → RefineShrinks → (sizes : Maps) (next : StateValue) → IsBelow (comparing held) next → (behind : ℕ) (slots : List (Option Insn)) (condition : Condition) (dst : ℕ) (src : Operand)
+  pub test_before : BelowIsTransitive → StateRefineShrinks → (sizes : Maps) (next : StateValue) → IsStateBelow (comparing held) next → (following : ℕ) (slots : List (Option Insn)) (condition : Condition) (dst : ℕ) (src : Operand)
       → IsWhole (comparing held) → IsOk (refined_edges (comparing held) condition Bits64 dst src)
-      → IsJustifiedTo sizes next behind slots → IsJustifiedTo sizes (comparing held) (suc behind) (Some (skips_if condition dst src behind) ∷ slots)
-  test_before transitive shrinks sizes next less behind slots condition dst src whole ok rest =
-      let insn : Insn = skips_if condition dst src behind in
+      → IsJustifiedTo sizes next following slots → IsJustifiedTo sizes (comparing held) (suc following) (Some (skips_if condition dst src following) ∷ slots)
+  test_before transitive shrinks sizes next less following slots condition dst src whole ok rest =
+      let insn : Insn = skips_if condition dst src following in
       let table : Knowledge = before (Some (comparing held)) rest.table in
       let edges : Result Edges Cause = refined_edges (comparing held) condition Bits64 dst src in
-      let taken : table (1 + behind) ≡ Some (between held) = ap (λ (k : ℕ). table k) (one_more behind) ∙ rest.further in
+      let taken : table (1 + following) ≡ Some (between held) = ap (λ (k : ℕ). table k) (one_more following) ∙ rest.further in
       let both : AreEdgesCovered edges (Some (between held)) (Some next) = edges_covered transitive next less edges ok (shrinks (comparing held) condition Bits64 dst src) in
-      let at_target : AreEdgesCovered edges (table (1 + behind)) (Some next) = subst (λ (o : Option StateValue). AreEdgesCovered edges o (Some next)) (sym taken) both in
-      let there : IsSome (slice_index_or (Some insn ∷ slots) (1 + behind) None) =
-      subst (λ (k : ℕ). IsSome (slice_index_or (Some insn ∷ slots) k None)) (sym (one_more behind))
-      (begins sizes rest.table slots behind (rest.table behind) (slice_index_or slots behind None) rest.further (rest.served behind)) in
+      let at_target : AreEdgesCovered edges (table (1 + following)) (Some next) = subst (λ (o : Option StateValue). AreEdgesCovered edges o (Some next)) (sym taken) both in
+      let there : IsSome (slice_index_or (Some insn ∷ slots) (1 + following) None) =
+      subst (λ (k : ℕ). IsSome (slice_index_or (Some insn ∷ slots) k None)) (sym (one_more following))
+      (begins sizes rest.table slots following (rest.table following) (slice_index_or slots following None) rest.further (rest.served following)) in
       let here : IsServedAt sizes table (Some insn ∷ slots) 0 (Some (comparing held)) (Some insn) = record {
         whole = whole;
-        permitted = subst (λ (o : Option StateValue). AreEdgesCovered edges (table (1 + behind)) o) (sym rest.here) at_target;
+        permitted = subst (λ (o : Option StateValue). AreEdgesCovered edges (table (1 + following)) o) (sym rest.here) at_target;
         supported = tt;
         leaves_frame = tt;
         lands = there;
@@ -189,22 +189,22 @@ module _ (held : Bool) where
 
   -- ---- a ticket
 
-  pub call_before : BelowIsReflexive → (sizes : Maps) (map cell behind : ℕ) (slots : List (Option Insn)) → IsWhole (drawing held map cell) → cell < slice_index sizes.cells map → kind_of_map sizes map ≡ Counter
-      → IsJustifiedTo sizes (comparing held) behind slots → IsJustifiedTo sizes (drawing held map cell) (suc behind) (Some (Call callees.Helper (pos (helper_number Ticket))) ∷ slots)
-  call_before reflexive sizes map cell behind slots whole inside counter rest =
-      one_before sizes (drawing held map cell) (comparing held) behind (Some (between held)) slots whole (Call callees.Helper (pos (helper_number Ticket)))
+  pub call_before : BelowIsReflexive → (sizes : Maps) (map cell following : ℕ) (slots : List (Option Insn)) → IsWhole (drawing held map cell) → cell < slice_index sizes.cells map → kind_of_map sizes map ≡ Counter
+      → IsJustifiedTo sizes (comparing held) following slots → IsJustifiedTo sizes (drawing held map cell) (suc following) (Some (Call callees.Helper (pos (helper_number Ticket))) ∷ slots)
+  call_before reflexive sizes map cell following slots whole inside counter rest =
+      one_before sizes (drawing held map cell) (comparing held) following (Some (between held)) slots whole (Call callees.Helper (pos (helper_number Ticket)))
       (λ table is. (record { cell = inside; given = λ takes. absurd cc; kind = rw counter refl }, subst (λ (o : Option StateValue). IsCovered (comparing held) o) (sym is) (reflexive (comparing held))))
       refl tt refl rest
 
   -- the load of a map has two slots
-  pub map_before : BelowIsReflexive → (sizes : Maps) (map behind : ℕ) (slots : List (Option Insn)) → IsWhole (between held) → IsTrue (is_map sizes (pos map)) → map_kind (pos map) ≡ Map map
-      → IsJustifiedTo sizes (mapped held map) behind slots → IsJustifiedTo sizes (between held) (suc (suc behind)) (Some (LoadMap 1 (pos map)) ∷ None ∷ slots)
-  map_before reflexive sizes map behind slots whole exists small rest =
+  pub map_before : BelowIsReflexive → (sizes : Maps) (map following : ℕ) (slots : List (Option Insn)) → IsWhole (between held) → IsTrue (is_map sizes (pos map)) → map_kind (pos map) ≡ Map map
+      → IsJustifiedTo sizes (mapped held map) following slots → IsJustifiedTo sizes (between held) (suc (suc following)) (Some (LoadMap 1 (pos map)) ∷ None ∷ slots)
+  map_before reflexive sizes map following slots whole exists small rest =
       let insn : Insn = LoadMap 1 (pos map) in
       let later : Knowledge = before None rest.table in
       let table : Knowledge = before (Some (between held)) later in
-      let loaded_map : IsBelow (with_kind (between held) 1 (map_kind (pos map))) (mapped held map) =
-      subst (λ (kind : AbsKind). IsBelow (with_kind (between held) 1 kind) (mapped held map)) (sym small) (reflexive (mapped held map)) in
+      let loaded_map : IsStateBelow (with_kind (between held) 1 (map_kind (pos map))) (mapped held map) =
+      subst (λ (kind : AbsKind). IsStateBelow (with_kind (between held) 1 kind) (mapped held map)) (sym small) (reflexive (mapped held map)) in
       let second : AreServed sizes later (None ∷ slots) = serve_before sizes rest.table slots None None tt rest.served in
       let here : IsServedAt sizes table (Some insn ∷ None ∷ slots) 0 (Some (between held)) (Some insn) = record {
         whole = whole;
@@ -228,8 +228,8 @@ module _ (held : Bool) where
       serve_before sizes table slots (Some (comparing held)) (Some Exit)
       (record { whole = whole; permitted = tt; supported = tt; leaves_frame = tt; lands = tt }) rest
 
-  pub exit_before : (sizes : Maps) (behind : ℕ) (slots : List (Option Insn)) → IsWhole (comparing held) → IsJustifiedTo sizes (between held) behind slots → IsJustifiedTo sizes (comparing held) (suc behind) (Some Exit ∷ slots)
-  exit_before sizes behind slots whole rest = record {
+  pub exit_before : (sizes : Maps) (following : ℕ) (slots : List (Option Insn)) → IsWhole (comparing held) → IsJustifiedTo sizes (between held) following slots → IsJustifiedTo sizes (comparing held) (suc following) (Some Exit ∷ slots)
+  exit_before sizes following slots whole rest = record {
     table = before (Some (comparing held)) rest.table;
     served = ends_here sizes rest.table slots whole rest.served;
     ended = ended_before slots (Some Exit) Exit rest.ended;

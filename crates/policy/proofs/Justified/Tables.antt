@@ -31,14 +31,14 @@ use Rattle.absdom.specs.Edges.{refined_edges}
 use Rattle.absdom_stack.specs.declared.spill.Spill.TheVariants.{Forgets}
 use Rattle.absdom.specs.Effect.{load_kind, map_kind, with_result}
 use Rattle.absdom.specs.Kinds.{IsKindBelow}
-use Rattle.absdom.specs.Laws.{BelowIsReflexive, BelowIsTransitive, RefineShrinks}
+use Rattle.absdom.specs.Laws.{BelowIsReflexive, BelowIsTransitive, StateRefineShrinks}
 use Rattle.absdom.specs.State.{IsProper, IsWhole, StateValue, kind_at}
 use Rattle.bver_form.specs.Form.{IsAllowed}
 use Rattle.bver_form.specs.Support.{IsSupported}
 use Rattle.bver_form.specs.Jumps.{IsJump, jump_distance}
 use Rattle.bver_form.specs.Loops.{IsLoopFormed}
 use Rattle.bver.specs.Justified.{IsCovered, IsHead, IsJustified, IsPermittedAt, IsResultCovered}
-use Rattle.policy.specs.Code.{address_code, asks_ports, behind_extended, behind_initiator, behind_key, behind_kind, behind_range, field_slots, field_test, keep_code, kind_slots, kind_test, last_address_code, masked_test, port_test, quota_slots, quota_test, range_test, rule_code, rule_slots, rules_code, set_to_bits, skips_if, verdict_code}
+use Rattle.policy.specs.Code.{address_code, asks_ports, after_extended, after_initiator, after_key, after_kind, slots_after_range, field_slots, field_test, keep_code, kind_slots, kind_test, last_address_code, masked_test, port_test, quota_slots, quota_test, range_test, rule_code, rule_slots, rules_code, set_to_bits, skips_if, verdict_code}
 use Rattle.rmap.specs.Verdict.{verdict_number}
 use Rattle.policy_table.specs.FirstFault.{quota_fault}
 use Rattle.policy_table.specs.Limits.{FitsFields, IsLimited}
@@ -60,7 +60,7 @@ use Rattle.policy.proofs.Justified.Stretches.{IsJustifiedFrom, IsJustifiedTo, al
 pub record Laws : Type 0 where
   pub reflexive : BelowIsReflexive
   pub transitive : BelowIsTransitive
-  pub shrinks : RefineShrinks
+  pub shrinks : StateRefineShrinks
 
 -- the slots of instructions
 abbrev slots_for : List Insn → List (Option Insn)
@@ -95,24 +95,24 @@ map_small map false is = cc
 
 -- ---- a rule and what comes after it
 
-behind_all : (a b c d e f g rest : List Insn) → (a ++ (b ++ (c ++ (d ++ (e ++ (f ++ g)))))) ++ rest ≡ a ++ (b ++ (c ++ (d ++ (e ++ (f ++ (g ++ rest))))))
-behind_all a b c d e f g rest = simp append_assoc
+after_all : (a b c d e f g rest : List Insn) → (a ++ (b ++ (c ++ (d ++ (e ++ (f ++ g)))))) ++ rest ≡ a ++ (b ++ (c ++ (d ++ (e ++ (f ++ (g ++ rest))))))
+after_all a b c d e f g rest = simp append_assoc
 
 in_front : (rule : Rule) (rest : List Insn)
-    → rule_code rule ++ rest ≡ kind_test rule.kind (behind_kind rule) ++ (field_test rule.key 6 3 (behind_key rule) ++ (field_test rule.initiator 7 0 (behind_initiator rule)
-    ++ (field_test rule.extended 7 3 (behind_extended rule) ++ (range_test rule.low rule.high (behind_range rule) ++ (quota_test rule.quota 2 ++ (verdict_code (verdict_number rule.verdict) ++ rest))))))
+    → rule_code rule ++ rest ≡ kind_test rule.kind (after_kind rule) ++ (field_test rule.key 6 3 (after_key rule) ++ (field_test rule.initiator 7 0 (after_initiator rule)
+    ++ (field_test rule.extended 7 3 (after_extended rule) ++ (range_test rule.low rule.high (slots_after_range rule) ++ (quota_test rule.quota 2 ++ (verdict_code (verdict_number rule.verdict) ++ rest))))))
 in_front rule rest =
     ap (λ (code : List Insn). code ++ rest) (in_turn rule)
-    ∙ behind_all (kind_test rule.kind (behind_kind rule)) (field_test rule.key 6 3 (behind_key rule)) (field_test rule.initiator 7 0 (behind_initiator rule)) (field_test rule.extended 7 3 (behind_extended rule)) (range_test rule.low rule.high (behind_range rule)) (quota_test rule.quota 2) (verdict_code (verdict_number rule.verdict)) rest
+    ∙ after_all (kind_test rule.kind (after_kind rule)) (field_test rule.key 6 3 (after_key rule)) (field_test rule.initiator 7 0 (after_initiator rule)) (field_test rule.extended 7 3 (after_extended rule)) (range_test rule.low rule.high (slots_after_range rule)) (quota_test rule.quota 2) (verdict_code (verdict_number rule.verdict)) rest
 
 -- with the port on the stack, or without
 module _ (held : Bool) where
   -- a stretch of instructions to the next rule, and to the end of the code
-  abbrev IsStretch : (sizes : Maps) (first : StateValue) (behind : ℕ) (insns : List Insn) → Type 0
-  IsStretch sizes first behind insns = IsJustifiedTo held sizes first behind (slots_for insns)
+  abbrev IsStretch : (sizes : Maps) (first : StateValue) (following : ℕ) (insns : List Insn) → Type 0
+  IsStretch sizes first following insns = IsJustifiedTo held sizes first following (slots_for insns)
 
-  again : (sizes : Maps) (first : StateValue) (behind other : ℕ) (insns : List Insn) → behind ≡ other → IsStretch sizes first behind insns → IsStretch sizes first other insns
-  again sizes first behind other insns same h = counted sizes first behind other (Some (between held)) (slots_for insns) same h
+  again : (sizes : Maps) (first : StateValue) (following other : ℕ) (insns : List Insn) → following ≡ other → IsStretch sizes first following insns → IsStretch sizes first other insns
+  again sizes first following other insns same h = counted sizes first following other (Some (between held)) (slots_for insns) same h
 
   -- ---- states
 
@@ -156,56 +156,56 @@ module _ (held : Bool) where
       whole_in_rules held tt tt proper
 
   module _ (laws : Laws) (sizes : Maps) where
-    test : (behind : ℕ) (slots : List (Option Insn)) (condition : Condition) (dst : ℕ) (src : Operand) → IsOk (refined_edges (comparing held) condition Bits64 dst src)
-        → IsJustifiedTo held sizes (between held) behind slots → IsJustifiedTo held sizes (comparing held) (suc behind) (Some (skips_if condition dst src behind) ∷ slots)
-    test behind slots condition dst src ok rest =
-        test_before held laws.transitive laws.shrinks sizes (between held) (below_in_rules held tt tt tt) behind slots condition dst src whole_comparing ok rest
+    test : (following : ℕ) (slots : List (Option Insn)) (condition : Condition) (dst : ℕ) (src : Operand) → IsOk (refined_edges (comparing held) condition Bits64 dst src)
+        → IsJustifiedTo held sizes (between held) following slots → IsJustifiedTo held sizes (comparing held) (suc following) (Some (skips_if condition dst src following) ∷ slots)
+    test following slots condition dst src ok rest =
+        test_before held laws.transitive laws.shrinks sizes (between held) (below_in_rules held tt tt tt) following slots condition dst src whole_comparing ok rest
 
-    masked : (mask wanted behind : ℕ) (insns : List Insn) → IsStretch sizes (between held) behind insns → IsStretch sizes (between held) (behind + 3) (masked_test mask wanted behind ++ insns)
-    masked mask wanted behind insns rest =
-        let compared = test behind _ NotEqual 0 (Immediate (pos wanted)) refl rest in
-        let anded = alu_before sizes (comparing held) (comparing held) (suc behind) (Some (between held)) _ whole_comparing And Bits64 0 (Immediate (pos mask)) refl (below_in_rules held (masked_number mask) tt tt) compared in
-        let read = load_before sizes (between held) (comparing held) (suc (suc behind)) (Some (between held)) _ whole_between LoadByte 0 6 2 refl (below_in_rules held byte_number tt tt) anded in
-        again sizes (between held) (suc (suc (suc behind))) (behind + 3) (masked_test mask wanted behind ++ insns) (omega arith) read
+    masked : (mask wanted following : ℕ) (insns : List Insn) → IsStretch sizes (between held) following insns → IsStretch sizes (between held) (following + 3) (masked_test mask wanted following ++ insns)
+    masked mask wanted following insns rest =
+        let compared = test following _ NotEqual 0 (Immediate (pos wanted)) refl rest in
+        let anded = alu_before sizes (comparing held) (comparing held) (suc following) (Some (between held)) _ whole_comparing And Bits64 0 (Immediate (pos mask)) refl (below_in_rules held (masked_number mask) tt tt) compared in
+        let read = load_before sizes (between held) (comparing held) (suc (suc following)) (Some (between held)) _ whole_between LoadByte 0 6 2 refl (below_in_rules held byte_number tt tt) anded in
+        again sizes (between held) (suc (suc (suc following))) (following + 3) (masked_test mask wanted following ++ insns) (omega arith) read
 
-    kind_stretch : (kind : RuleKind) (behind : ℕ) (insns : List Insn) → IsStretch sizes (between held) behind insns → IsStretch sizes (between held) (behind + kind_slots kind) (kind_test kind behind ++ insns)
-    kind_stretch Any behind insns rest = again sizes (between held) behind (behind + 0) insns (omega arith) rest
-    kind_stretch Read behind insns rest = masked 248 72 behind insns rest
-    kind_stretch Write behind insns rest = masked 224 96 behind insns rest
-    kind_stretch Rmw behind insns rest = masked 252 92 behind insns rest
+    kind_stretch : (kind : RuleKind) (following : ℕ) (insns : List Insn) → IsStretch sizes (between held) following insns → IsStretch sizes (between held) (following + kind_slots kind) (kind_test kind following ++ insns)
+    kind_stretch Any following insns rest = again sizes (between held) following (following + 0) insns (omega arith) rest
+    kind_stretch Read following insns rest = masked 248 72 following insns rest
+    kind_stretch Write following insns rest = masked 224 96 following insns rest
+    kind_stretch Rmw following insns rest = masked 252 92 following insns rest
 
     -- through a register from which the byte at the offset can be read
-    field_stretch : (field : Option ℕ) (base offset behind : ℕ) (insns : List Insn) → load_kind Forgets (between held) LoadByte (kind_at (between held) base) (pos offset) ≡ Ok (Num (0, 2 ^ 8 - 1))
-        → IsStretch sizes (between held) behind insns → IsStretch sizes (between held) (behind + field_slots field) (field_test field base offset behind ++ insns)
-    field_stretch None base offset behind insns readable rest = again sizes (between held) behind (behind + 0) insns (omega arith) rest
-    field_stretch (Some wanted) base offset behind insns readable rest =
-        let compared = test behind _ NotEqual 0 (Immediate (pos wanted)) refl rest in
+    field_stretch : (field : Option ℕ) (base offset following : ℕ) (insns : List Insn) → load_kind Forgets (between held) LoadByte (kind_at (between held) base) (pos offset) ≡ Ok (Num (0, 2 ^ 8 - 1))
+        → IsStretch sizes (between held) following insns → IsStretch sizes (between held) (following + field_slots field) (field_test field base offset following ++ insns)
+    field_stretch None base offset following insns readable rest = again sizes (between held) following (following + 0) insns (omega arith) rest
+    field_stretch (Some wanted) base offset following insns readable rest =
+        let compared = test following _ NotEqual 0 (Immediate (pos wanted)) refl rest in
         let covered : IsResultCovered (with_result (between held) 0 (load_kind Forgets (between held) LoadByte (kind_at (between held) base) (pos offset))) (Some (comparing held)) =
         subst (λ (r : Result AbsKind Cause). IsResultCovered (with_result (between held) 0 r) (Some (comparing held))) (sym readable) (below_in_rules held byte_number tt tt) in
-        let read = load_before sizes (between held) (comparing held) (suc behind) (Some (between held)) _ whole_between LoadByte 0 base offset refl covered compared in
-        again sizes (between held) (suc (suc behind)) (behind + 2) (field_test (Some wanted) base offset behind ++ insns) (omega arith) read
+        let read = load_before sizes (between held) (comparing held) (suc following) (Some (between held)) _ whole_between LoadByte 0 base offset refl covered compared in
+        again sizes (between held) (suc (suc following)) (following + 2) (field_test (Some wanted) base offset following ++ insns) (omega arith) read
 
     -- r0 is set to a number
-    set_stretch : (width : Width) (value : ℤ) (behind : ℕ) (there : Option StateValue) (slots : List (Option Insn)) → word value < 2 ^ 64
-        → IsJustifiedFrom sizes (comparing held) behind there slots → IsJustifiedFrom sizes (between held) (suc behind) there (Some (Alu Mov width 0 (Immediate value)) ∷ slots)
-    set_stretch width value behind there slots small rest =
-        alu_before sizes (between held) (comparing held) behind there slots whole_between Mov width 0 (Immediate value) refl (below_in_rules held (moved_number width (word value) small) tt tt) rest
+    set_stretch : (width : Width) (value : ℤ) (following : ℕ) (there : Option StateValue) (slots : List (Option Insn)) → word value < 2 ^ 64
+        → IsJustifiedFrom sizes (comparing held) following there slots → IsJustifiedFrom sizes (between held) (suc following) there (Some (Alu Mov width 0 (Immediate value)) ∷ slots)
+    set_stretch width value following there slots small rest =
+        alu_before sizes (between held) (comparing held) following there slots whole_between Mov width 0 (Immediate value) refl (below_in_rules held (moved_number width (word value) small) tt tt) rest
 
     -- a comparison of an address with it
-    limit_stretch : (limit behind skipped : ℕ) (insns : List Insn) (condition : Condition) (dst : ℕ) → limit < 2 ^ 32 → skipped ≡ behind
+    limit_stretch : (limit following skipped : ℕ) (insns : List Insn) (condition : Condition) (dst : ℕ) → limit < 2 ^ 32 → skipped ≡ following
         → IsOk (refined_edges (comparing held) condition Bits64 dst (FromRegister 0))
-        → IsStretch sizes (between held) behind insns → IsStretch sizes (between held) (behind + 2) (set_to_bits 0 limit ∷ skips_if condition dst (FromRegister 0) skipped ∷ insns)
-    limit_stretch limit behind skipped insns condition dst small same ok rest =
-        let compared = test skipped _ condition dst (FromRegister 0) ok (again sizes (between held) behind skipped insns (sym same) rest) in
+        → IsStretch sizes (between held) following insns → IsStretch sizes (between held) (following + 2) (set_to_bits 0 limit ∷ skips_if condition dst (FromRegister 0) skipped ∷ insns)
+    limit_stretch limit following skipped insns condition dst small same ok rest =
+        let compared = test skipped _ condition dst (FromRegister 0) ok (again sizes (between held) following skipped insns (sym same) rest) in
         let set = set_stretch Bits32 (cast_signed w32 limit) (suc skipped) (Some (between held)) _ (small_bits (cast_signed w32 limit)) compared in
-        again sizes (between held) (suc (suc skipped)) (behind + 2) (set_to_bits 0 limit ∷ skips_if condition dst (FromRegister 0) skipped ∷ insns) (omega (arith, same)) set
+        again sizes (between held) (suc (suc skipped)) (following + 2) (set_to_bits 0 limit ∷ skips_if condition dst (FromRegister 0) skipped ∷ insns) (omega (arith, same)) set
 
-    range_stretch : (low high behind : ℕ) (insns : List Insn) → low < 2 ^ 32 → high < 2 ^ 32
-        → IsStretch sizes (between held) behind insns → IsStretch sizes (between held) (behind + 4) (range_test low high behind ++ insns)
-    range_stretch low high behind insns small_low small_high rest =
-        let above = limit_stretch high behind behind insns Greater 9 small_high refl refl rest in
-        let both = limit_stretch low (behind + 2) (behind + 2) (set_to_bits 0 high ∷ skips_if Greater 9 (FromRegister 0) behind ∷ insns) Less 8 small_low refl refl above in
-        again sizes (between held) (behind + 2 + 2) (behind + 4) (range_test low high behind ++ insns) (omega arith) both
+    range_stretch : (low high following : ℕ) (insns : List Insn) → low < 2 ^ 32 → high < 2 ^ 32
+        → IsStretch sizes (between held) following insns → IsStretch sizes (between held) (following + 4) (range_test low high following ++ insns)
+    range_stretch low high following insns small_low small_high rest =
+        let above = limit_stretch high following following insns Greater 9 small_high refl refl rest in
+        let both = limit_stretch low (following + 2) (following + 2) (set_to_bits 0 high ∷ skips_if Greater 9 (FromRegister 0) following ∷ insns) Less 8 small_low refl refl above in
+        again sizes (between held) (following + 2 + 2) (following + 4) (range_test low high following ++ insns) (omega arith) both
 
     -- a ticket of a cell that the maps have
     quota_stretch : (quota : Option Quota) (insns : List Insn) → IsLimited quota → quota_fault sizes quota ≡ None
@@ -234,24 +234,24 @@ module _ (held : Bool) where
     rule_reach rule insns fits none rest =
         let verdict = verdict_stretch (verdict_number rule.verdict) insns rest in
         let quota = quota_stretch rule.quota _ fits.quota none verdict in
-        let range = range_stretch rule.low rule.high (behind_range rule) _ fits.low fits.high quota in
-        let extended = field_stretch rule.extended 7 3 (behind_extended rule) _ refl range in
-        let initiator = field_stretch rule.initiator 7 0 (behind_initiator rule) _ refl extended in
-        let key = field_stretch rule.key 6 3 (behind_key rule) _ refl initiator in
-        let kind = kind_stretch rule.kind (behind_kind rule) _ key in
-        again sizes (between held) (behind_kind rule + kind_slots rule.kind) (rule_slots rule) (rule_code rule ++ insns) (omega arith)
-        (subst (λ (code : List Insn). IsStretch sizes (between held) (behind_kind rule + kind_slots rule.kind) code) (sym (in_front rule insns)) kind)
+        let range = range_stretch rule.low rule.high (slots_after_range rule) _ fits.low fits.high quota in
+        let extended = field_stretch rule.extended 7 3 (after_extended rule) _ refl range in
+        let initiator = field_stretch rule.initiator 7 0 (after_initiator rule) _ refl extended in
+        let key = field_stretch rule.key 6 3 (after_key rule) _ refl initiator in
+        let kind = kind_stretch rule.kind (after_kind rule) _ key in
+        again sizes (between held) (after_kind rule + kind_slots rule.kind) (rule_slots rule) (rule_code rule ++ insns) (omega arith)
+        (subst (λ (code : List Insn). IsStretch sizes (between held) (after_kind rule + kind_slots rule.kind) code) (sym (in_front rule insns)) kind)
 
     -- the test of a rule's port, which is kept if there is one
-    port_stretch : (field : Option ℕ) (behind : ℕ) (insns : List Insn) → (is_some field ≡ true → held ≡ true)
-        → IsStretch sizes (between held) behind insns → IsStretch sizes (between held) (behind + field_slots field) (port_test field behind ++ insns)
-    port_stretch None behind insns asked rest = again sizes (between held) behind (behind + 0) insns (omega arith) rest
-    port_stretch (Some wanted) behind insns asked rest =
-        let compared = test behind _ NotEqual 0 (Immediate (pos wanted)) refl rest in
+    port_stretch : (field : Option ℕ) (following : ℕ) (insns : List Insn) → (is_some field ≡ true → held ≡ true)
+        → IsStretch sizes (between held) following insns → IsStretch sizes (between held) (following + field_slots field) (port_test field following ++ insns)
+    port_stretch None following insns asked rest = again sizes (between held) following (following + 0) insns (omega arith) rest
+    port_stretch (Some wanted) following insns asked rest =
+        let compared = test following _ NotEqual 0 (Immediate (pos wanted)) refl rest in
         let covered : IsResultCovered (with_result (between held) 0 (load_kind Forgets (between held) LoadByte frame (negsuc 0))) (Some (comparing held)) =
         subst (λ (r : Result AbsKind Cause). IsResultCovered (with_result (between held) 0 r) (Some (comparing held))) (sym (port_readable held (asked refl))) (below_in_rules held byte_number tt tt) in
-        let read = port_before sizes (between held) (comparing held) (suc behind) (Some (between held)) _ whole_between covered compared in
-        again sizes (between held) (suc (suc behind)) (behind + 2) (port_test (Some wanted) behind ++ insns) (omega arith) read
+        let read = port_before sizes (between held) (comparing held) (suc following) (Some (between held)) _ whole_between covered compared in
+        again sizes (between held) (suc (suc following)) (following + 2) (port_test (Some wanted) following ++ insns) (omega arith) read
 
     rules_stretch : (rules : List PortRule) → (asks_ports rules ≡ true → held ≡ true) → All FitsPort rules → HaveCells sizes rules → IsStretch sizes (between held) 0 (rules_code rules)
     rules_stretch [] asked fits cells = begun held sizes 2 None _ (set_stretch Bits64 (pos 10) 1 None _ (small_bits (pos 10)) (last_exit held sizes whole_comparing))
@@ -322,13 +322,13 @@ ended_at slots insn h =
 
 -- the port goes on the stack first, if a rule asks it
 keep_stretch : (held : Bool) (laws : Laws) (sizes : Maps) (insns : List Insn) → IsStretch held sizes (given held) 14 insns
-    → (behind : ℕ) × IsJustifiedTo held sizes (entered held) behind (slots_for (keep_code held ++ insns))
+    → (following : ℕ) × IsJustifiedTo held sizes (entered held) following (slots_for (keep_code held ++ insns))
 keep_stretch false laws sizes insns rest = (14, rest)
 keep_stretch true laws sizes insns rest =
     (15, store_before sizes (entered true) (given true) 14 (Some (between true)) (slots_for insns) whole_entered kept_below rest)
 
-behind_keep : (a b c d : List Insn) → a ++ b ++ c ++ d ≡ a ++ (b ++ c ++ d)
-behind_keep a b c d = simp append_assoc
+after_keep : (a b c d : List Insn) → a ++ b ++ c ++ d ≡ a ++ (b ++ c ++ d)
+after_keep a b c d = simp append_assoc
 
 -- the program of a table whose cells the maps have, in the limits of the format and of its budget
 pub table_justified : Laws → (sizes : Maps) (rules : List PortRule) (budget : ℕ) → All FitsPort rules → HaveCells sizes rules
@@ -337,7 +337,7 @@ table_justified laws sizes rules budget fits cells limits light =
     let p : Program = table_program budget rules in
     let held : Bool = asks_ports rules in
     let own = keep_stretch held laws sizes (address_code ++ last_address_code ++ rules_code rules) (table_stretch held laws sizes (rules_code rules) (rules_stretch held laws sizes rules (λ asked. asked) fits cells)) in
-    let stretch : IsJustifiedTo held sizes (entered held) own.0 p.slots = subst (λ (insns : List Insn). IsJustifiedTo held sizes (entered held) own.0 (slots_for insns)) (sym (behind_keep (keep_code held) address_code last_address_code (rules_code rules))) own.1 in
+    let stretch : IsJustifiedTo held sizes (entered held) own.0 p.slots = subst (λ (insns : List Insn). IsJustifiedTo held sizes (entered held) own.0 (slots_for insns)) (sym (after_keep (keep_code held) address_code last_address_code (rules_code rules))) own.1 in
     record {
       limits = limits;
       formed = record {

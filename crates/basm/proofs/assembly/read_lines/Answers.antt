@@ -2,7 +2,7 @@ use Rattle.std.proofs.Common.{ℕ, List, length, map, take, sym, subst, arith}
 use Rattle.std.proofs.lemmas.Iterator.Consumers.{YieldsList-at, YieldsList-end, YieldsList-from_first, YieldsList-turn}
 use Rattle.basm_lex.specs.Lines.{pieces_of}
 use Rattle.std.proofs.lemmas.List.{length_push, map_push, take_all}
-use Rattle.basm.specs.Draft.{ArePartsOf, SayParts}
+use Rattle.basm.specs.PartialImage.{ArePartsOf, SayParts}
 use Rattle.basm.specs.Names.{slot_named}
 use Rattle.basm.specs.Relation.{Item}
 use Rattle.basm.proofs.Items.{say_push}

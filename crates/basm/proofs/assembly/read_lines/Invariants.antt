@@ -1,6 +1,6 @@
 use Rattle.std.proofs.Common.{length, map, take}
 use Rattle.bpf.specs.Program.{Program}
-use Rattle.basm.specs.Draft.{ArePartsOf, SayParts, SurveysText}
+use Rattle.basm.specs.PartialImage.{ArePartsOf, SayParts, SurveysText}
 use Rattle.basm.specs.Names.{slot_named}
 use Rattle.basm.specs.Relation.{IsText}
 use Rattle.basm.proofs.assembly.read_lines.Given as goal

@@ -1,8 +1,8 @@
-use Rattle.basm.proofs.Cuts.{behind_feed, line_cut, one_line}
+use Rattle.basm.proofs.Cuts.{after_feed, line_cut, one_line}
 use Rattle.basm.proofs.pieces.cut.Goals as goal
 
 pub range_from-requires : goal.range_from-requires
-range_from-requires c = λ some. behind_feed c.args.text.now c.as_bytes.result.now c.in-Some.end c.as_bytes.ensures.value c.in-Some.ensures c.utf8.text
+range_from-requires c = λ some. after_feed c.args.text.now c.as_bytes.result.now c.in-Some.end c.as_bytes.ensures.value c.in-Some.ensures c.utf8.text
 
 pub returns-in-Some : goal.returns-in-Some
 returns-in-Some c =

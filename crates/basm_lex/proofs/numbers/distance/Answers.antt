@@ -2,7 +2,7 @@ use Rattle.std.proofs.Common.{Some, None, subst, lit<, arith}
 use Rattle.std.proofs.lemmas.Int.{ints}
 use Rattle.std.proofs.lemmas.Str.Pattern.{strip_prefix_char}
 use Rattle.basm_lex.specs.Numbers.{WritesDistance}
-use Rattle.basm_lex.proofs.Readings.{behind_plus, refused_minus, signed}
+use Rattle.basm_lex.proofs.Readings.{after_plus, refused_minus, signed}
 use Rattle.basm_lex.proofs.numbers.distance.Goals as goal
 
 pub returns-in-Some-clause-exact : goal.returns-in-Some-clause-exact
@@ -10,7 +10,7 @@ returns-in-Some-clause-exact c = λ value w fits.
     let word = c.args.word.now in
     let rest = c.in-Some.rest in
     let same = strip_prefix_char 43 word (Some rest) c.in-Some.ensures.cases (lit< tt) in
-    c.magnitude.ensures.exact value (behind_plus rest.now value (subst (λ x. WritesDistance x value) same w)) (omega (arith, ints))
+    c.magnitude.ensures.exact value (after_plus rest.now value (subst (λ x. WritesDistance x value) same w)) (omega (arith, ints))
 
 pub returns-in_err-magnitude-in-Some-strip_prefix-clause-exact : goal.returns-in_err-magnitude-in-Some-strip_prefix-clause-exact
 returns-in_err-magnitude-in-Some-strip_prefix-clause-exact c = λ value w fits.

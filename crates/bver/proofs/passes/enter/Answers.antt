@@ -7,7 +7,7 @@ use Rattle.bver_pass.specs.Leading.{EntersOutside, IsHeadFault, widens}
 use Rattle.bver.proofs.Keeping.{known_kept}
 use Rattle.bver.proofs.Widening.{widened_above, widened_head}
 use Rattle.bver.proofs.Visiting.{heads_of}
-use Rattle.bver.proofs.Completing.{told_on}
+use Rattle.bver.proofs.Completing.{reported_on}
 use Rattle.bver.proofs.passes.enter.Goals as goal
 
 pub widen-requires-clause-kept : goal.widen-requires-clause-kept
@@ -62,5 +62,5 @@ returns-in_err-widen_head-in-Some-clause-fault c =
     let at : b.declared.head ≡ v.slot = search rules in
     let declared : IsDeclared b.program b.declared b.place = search rules in
     let outside : EntersOutside v.program v.slot state = record { declared = b.declared; place = b.place; is = subst (λ (p : Program). IsDeclared p b.declared b.place) same declared; head = at; outside = c.in_err-widen_head-in-Some.ensures.outside } in
-    told_on c.from_residual.result c.in_err-widen_head-in-Some.field-0.0 (IsHeadFault v state c.widen_head.new.state) (search rules)
+    reported_on c.from_residual.result c.in_err-widen_head-in-Some.field-0.0 (IsHeadFault v state c.widen_head.new.state) (search rules)
     (record { slot = search rules; code = search rules; outside = outside; as_it_came = search rules })

@@ -4,10 +4,10 @@ use Rattle.machine.specs.Step.{insn_at}
 use Rattle.bver_form.specs.Lowered.{IsMore, IsSettled}
 use Rattle.bver_pass.specs.Leading.{IsLeastVisitIfAny, IsVisitFaultIfAny}
 use Rattle.absdom.specs.State.{IsWhole}
-use Rattle.bver_pass.specs.Table.{knowledge_in}
+use Rattle.bver_pass.specs.StateTable.{knowledge_in}
 use Rattle.bver_pass.specs.Visit.{IsVisit, VisitValue, visited_state}
-use Rattle.bver.specs.Told.{HasToLower, TellsKnown}
-use Rattle.bver.proofs.Completing.{Rules, complete_next, complete_none, complete_told, told_on}
+use Rattle.bver.specs.Reported.{HasToLower, ReportsKnown}
+use Rattle.bver.proofs.Completing.{Rules, complete_next, complete_none, complete_reported, reported_on}
 use Rattle.bver.proofs.Passing.{passing_none, passing_plain, passing_slot, visit_at, visit_of, visited_program}
 use Rattle.bver.proofs.Visiting.{judged}
 use Rattle.bver.proofs.passes.pass.Goals as goal
@@ -70,8 +70,8 @@ returns-clause-judged c =
     λ settled.
     judged p c.args.maps.now h.known c.loop-slot.regions.items c.slots-slot-end.ensures.program c.requires.formed c.loop-slot.invariant.3 (rw last at h.visited) (rw last at (h.permitted settled))
 
-pub returns-in_err-region-clause-told : goal.returns-in_err-region-clause-told
-returns-in_err-region-clause-told c =
+pub returns-in_err-region-clause-reported : goal.returns-in_err-region-clause-reported
+returns-in_err-region-clause-reported c =
     let p = c.args.image.now in
     let maps = c.args.maps.now in
     let slot = c.loop-slot.slot in
@@ -84,8 +84,8 @@ returns-in_err-region-clause-told c =
     let laws : Rules = record { reflexive = c.order_of_states.ensures.reflexive; transitive = c.order_of_states.ensures.transitive; applies = c.apply_grows.ensures; refines = c.refine_grows.ensures; calls = c.after_call_grows.ensures; apply_leaves = c.apply_leaves.ensures.apply; call_leaves = c.apply_leaves.ensures.call; shrinks = c.refine_shrinks.ensures; entered = c.loops_are_counted.ensures.entered } in
     let fault : IsVisitFaultIfAny v c.loop-slot.lowered (knowledge_in old) (visited_state was state old v.slot) (insn_at v.program v.slot) left refused = c.in_err-region.ensures.fault in
     let same = visit_of v p maps slot c.new-visit.ensures.program c.new-visit.ensures.maps c.new-visit.ensures.slot in
-    told_on c.from_residual.result refused (λ refused. HasToLower p c.args.lowered.now → TellsKnown p maps left refused) (search rules)
-    (complete_told laws v p maps slot c.args.lowered.now c.loop-slot.lowered old was state left refused same c.requires.formed
+    reported_on c.from_residual.result refused (λ refused. HasToLower p c.args.lowered.now → ReportsKnown p maps left refused) (search rules)
+    (complete_reported laws v p maps slot c.args.lowered.now c.loop-slot.lowered old was state left refused same c.requires.formed
     (passing_plain p maps old was state c.loop-slot.regions.items (IsSettled c.args.lowered.now c.loop-slot.lowered) slot c.slots-slot-end.ensures.program c.loop-slot.invariant.0)
     c.loop-slot.invariant.0.state_whole c.loop-slot.invariant.0.whole fault c.loop-slot.invariant.4)
 

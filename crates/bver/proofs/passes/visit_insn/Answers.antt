@@ -4,7 +4,7 @@ use Rattle.absdom_stack.specs.Spill.{spill_of}
 use Rattle.bver_pass.specs.Justified.{IsCoveredIfAny, IsPermitted, accessed_region}
 use Rattle.bver_pass.specs.Leading.{AreLoweredBack, jumping_state, IsFlowFault, IsWidenedIfAny, LeadsBelow}
 use Rattle.bver_form.specs.Lowered.{IsSettled}
-use Rattle.bver_pass.specs.Table.{knowledge_beside, knowledge_in}
+use Rattle.bver_pass.specs.StateTable.{knowledge_beside, knowledge_in}
 use Rattle.bver_form.specs.Targets.{IsPlain}
 use Rattle.bver_pass.specs.Visit.{IsExtended, IsLeastNext, IsLeastOf, visited_state}
 use Rattle.bver_pass.specs.Heads.{AreHeadsAt}
@@ -75,5 +75,5 @@ returns-in_err-goes_on-clause-fault c =
     let refused = c.in_err-goes_on.field-0.0 in
     let fault : IsFlowFault v c.args.lowered.now (knowledge_in mid) here insn refused = search rules in
     let kept : c.flow.new.state ≡ here = search rules in
-    let told : c.from_residual-in_err-goes_on.result ≡ Err refused = search rules in
-    rw (told, kept) (leads_fault v c.args.lowered.now old mid was before here insn refused known c.stands_whole.ensures widened extended fault)
+    let reported : c.from_residual-in_err-goes_on.result ≡ Err refused = search rules in
+    rw (reported, kept) (leads_fault v c.args.lowered.now old mid was before here insn refused known c.stands_whole.ensures widened extended fault)

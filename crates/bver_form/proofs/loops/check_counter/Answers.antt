@@ -1,5 +1,5 @@
 use Rattle.std.proofs.Common.{arith}
-use Rattle.bver_form.proofs.Told.{leave_none}
+use Rattle.bver_form.proofs.Reported.{leave_none}
 use Rattle.bver_form.proofs.loops.check_counter.Goals as goal
 
 pub loop-slot-init : goal.loop-slot-init

@@ -1,7 +1,7 @@
 use Rattle.std.proofs.Common.{◌+◌, ◌<◌, ◌≤◌, length}
 use Rattle.bpf.specs.Program.{Program}
 use Rattle.bver_form.specs.Facts.{AreFacts}
-use Rattle.bver_form.proofs.Told.{LeaveBefore}
+use Rattle.bver_form.proofs.Reported.{LeaveBefore}
 use Rattle.bver_form.proofs.loops.check_counter.Given as goal
 
 abbrev pub invariant-loop-slot : goal.invariant-loop-slot

@@ -4,7 +4,7 @@ use Rattle.absdom.specs.State.{StateValue}
 use Rattle.absdom.specs.Edges.{edge_state}
 use Rattle.bver_form.specs.Jumps.{target}
 use Rattle.bver_pass.specs.Justified.{IsCoveredIfAny}
-use Rattle.bver_pass.specs.Table.{AreEntries, knowledge_beside, knowledge_in}
+use Rattle.bver_pass.specs.StateTable.{AreEntries, knowledge_beside, knowledge_in}
 use Rattle.bver_form.specs.Targets.{IsKept}
 use Rattle.bver_pass.specs.Visit.{knowledge_at_target}
 use Rattle.bver_pass.proofs.Covering.{AreCovered, any_covered_more, known_covered}

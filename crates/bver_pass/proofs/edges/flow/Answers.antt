@@ -2,9 +2,9 @@ use Rattle.std.proofs.Common.{rules, ◌≡◌}
 use Rattle.bpf_insn.specs.declared.flow.Flow.TheVariants.{GoesOn}
 use Rattle.bpf_insn.specs.Flow.{flow_of}
 use Rattle.absdom_stack.specs.Spill.{spill_of}
-use Rattle.bver_pass.specs.Table.{knowledge_in}
+use Rattle.bver_pass.specs.StateTable.{knowledge_in}
 use Rattle.bver_pass.proofs.Straight.{straight_fault, straight_least}
-use Rattle.bver_pass.proofs.Telling.{compared_fault, refuted_fault}
+use Rattle.bver_pass.proofs.Reporting.{compared_fault, refuted_fault}
 use Rattle.bver_pass.proofs.edges.flow.Goals as goal
 
 pub returns-in_ok-check_map-in-LoadMap-clause-least :

@@ -1,16 +1,16 @@
 use Rattle.std.proofs.Common.{ap, length}
-use Rattle.chart_lines.specs.Compared.{TellsLine}
-use Rattle.chart_lines.proofs.Telling.{tells_more}
+use Rattle.chart_lines.specs.Compared.{PrintsLine}
+use Rattle.chart_lines.proofs.Reporting.{reports_more}
 use Rattle.chart_lines.proofs.comparing.add_chart.Goals as goal
 
 pub loop-place-preserved : goal.loop-place-preserved
 loop-place-preserved c =
-    tells_more (TellsLine c.args.ports.now c.args.comparison.old.now c.args.comparison.new.now c.args.comparison.chart.now) c.loop-place.place c.args.rows.now.items c.loop-place.rows.items c.add_line.new.rows.items
+    reports_more (PrintsLine c.args.ports.now c.args.comparison.old.now c.args.comparison.new.now c.args.comparison.chart.now) c.loop-place.place c.args.rows.now.items c.loop-place.rows.items c.add_line.new.rows.items
     c.loop-place.invariant c.in_ok-add_line.ensures
 
 pub add_line-requires-clause-told : goal.add_line-requires-clause-told
 add_line-requires-clause-told c = record {
   first = c.args.rows.now.items;
   counted = ap (λ rows. length rows) c.as_slice-from.ensures.value;
-  told = c.loop-place.invariant;
+  reported = c.loop-place.invariant;
 }

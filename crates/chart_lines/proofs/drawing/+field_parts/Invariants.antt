@@ -5,4 +5,4 @@ abbrev pub decreases-field_parts : goal.decreases-field_parts
 decreases-field_parts l = length l.fields.now
 
 abbrev pub invariant-loop-bytes : goal.invariant-loop-bytes
-invariant-loop-bytes l = length l.behind < length l.fields
+invariant-loop-bytes l = length l.following < length l.fields

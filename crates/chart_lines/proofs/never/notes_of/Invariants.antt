@@ -1,7 +1,7 @@
 use Rattle.std.proofs.Common.{[]}
 use Rattle.chart_lines.specs.Never.{IsNotedAt}
-use Rattle.chart_lines.specs.Telling.{TellsFirst}
+use Rattle.chart_lines.specs.Reporting.{PrintsFirst}
 use Rattle.chart_lines.proofs.never.notes_of.Given as goal
 
 abbrev pub invariant-loop-place : goal.invariant-loop-place
-invariant-loop-place l = TellsFirst (IsNotedAt l.tables l.rules) l.place [] l.notes.items
+invariant-loop-place l = PrintsFirst (IsNotedAt l.tables l.rules) l.place [] l.notes.items

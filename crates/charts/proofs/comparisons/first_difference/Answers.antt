@@ -1,6 +1,6 @@
 use Rattle.std.proofs.Common.{◌≡◌, arith, true}
 use Rattle.charts.specs.Alike.{DifferWithinLimits}
-use Rattle.charts.specs.Points.{AreAlike}
+use Rattle.charts.specs.Points.{DecideAlike}
 use Rattle.charts.specs.Same.{AreSame, IsDifferenceIn}
 use Rattle.regions.specs.Questions.{HoldsAll, IsFound}
 use Rattle.regions.specs.Regions.{lies_in}
@@ -16,7 +16,7 @@ returns c =
     let asked = c.args.asked.now in
     let old = c.args.old.now in
     let new = c.args.new.now in
-    turned_of c.search.result (HoldsAll (λ p. lies_in asked p ≡ true → AreAlike old new p)) (AreSame asked old new)
+    turned_of c.search.result (HoldsAll (λ p. lies_in asked p ≡ true → DecideAlike old new p)) (AreSame asked old new)
     (IsFound (λ p. (lies_in asked p ≡ true) × DifferWithinLimits old new p)) (IsDifferenceIn asked old new) (whole asked old new)
     (λ p found. record {
       lies = found.answer.0;

@@ -6,7 +6,7 @@ abbrev pub decreases-is_in_pieces : goal.decreases-is_in_pieces
 decreases-is_in_pieces l = l.left
 
 abbrev pub invariant-groups : goal.invariant-groups
-invariant-groups l = IsJoined l.asked l.all l.old l.new l.lines l.rest l.behind
+invariant-groups l = IsJoined l.asked l.all l.old l.new l.lines l.rest l.following
 
 abbrev pub decreases-groups : goal.decreases-groups
-decreases-groups l = length l.behind
+decreases-groups l = length l.following

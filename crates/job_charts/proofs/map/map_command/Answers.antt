@@ -1,7 +1,7 @@
 use Rattle.std.proofs.Common.{ap, ap₂, codes, ◌≡◌, ◌∙◌}
 use Rattle.std.proofs.lemmas.Result.{IfOk-weaker}
 use Rattle.clap.specs.Simple.{app_of, app_of_fields, new_app, with_rule}
-use Rattle.job_charts.specs.Asking.{with_asking}
+use Rattle.job_charts.specs.ChartScope.{with_asking}
 use Rattle.job_charts.proofs.map.map_command.Goals as goal
 
 pub returns-clause-shape : goal.returns-clause-shape

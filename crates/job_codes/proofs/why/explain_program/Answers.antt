@@ -9,20 +9,20 @@ pub returns-in-Ok : goal.returns-in-Ok
 returns-in-Ok g c =
     let program = c.args.image.now in
     let old = g.W.Write.contents c.args.out.now in
-    let told = g.W.Write.contents c.print_accepted.new.out in
+    let reported = g.W.Write.contents c.print_accepted.new.out in
     let new = g.W.Write.contents c.print_text.new.out in
     let weight : c.weight.result ≡ saturated_weight (weight_of program) = search rules in
     let budget : c.budget.result ≡ program.budget = search rules in
-    let printed : Appends old told (accepted_line c.weight.result c.budget.result) = c.in_ok-print_accepted-in-Ok.ensures in
-    let maps : PrintsMaps [] program told new = record {
+    let printed : Appends old reported (accepted_line c.weight.result c.budget.result) = c.in_ok-print_accepted-in-Ok.ensures in
+    let maps : PrintsMaps [] program reported new = record {
       line = string_bytes c.maps_or_none-maps.result;
       maps = c.maps_or_none-maps.ensures;
-      printed = subst (λ (line : List ℕ). Appends told new line) c.as_str.ensures.value c.in_ok-print_text-in-Ok.ensures;
+      printed = subst (λ (line : List ℕ). Appends reported new line) c.as_str.ensures.value c.in_ok-print_text-in-Ok.ensures;
     } in
     record {
       justified = c.in-Ok.ensures.justified;
       safe = c.in-Ok.ensures.safe;
-      told = told;
-      line = subst (λ (w : ℕ). Appends old told (accepted_line w program.budget)) weight (subst (λ (b : ℕ). Appends old told (accepted_line c.weight.result b)) budget printed);
+      reported = reported;
+      line = subst (λ (w : ℕ). Appends old reported (accepted_line w program.budget)) weight (subst (λ (b : ℕ). Appends old reported (accepted_line c.weight.result b)) budget printed);
       maps = maps;
     }

@@ -2,7 +2,7 @@ use Rattle.std.proofs.Common.{inr, string_bytes, subst, List, ℕ}
 use Rattle.std.proofs.lemmas.Result.{IfErr-weaker, IfOk-weaker}
 use Rattle.toml.specs.Data.{Members}
 use Rattle.toml.specs.Parse.{parse_document}
-use Rattle.job_config.specs.Reads.{EndsBy, HoldsParts, IsBadNode}
+use Rattle.job_config.specs.Reads.{EndsBySaid, HoldsParts, IsBadNode}
 use Rattle.job_config.specs.declared.faults.ConfigFault.{ConfigFault}
 use Rattle.job_config.proofs.Chains.{some_read}
 use Rattle.job_config.proofs.reading.node_in.Goals as goal

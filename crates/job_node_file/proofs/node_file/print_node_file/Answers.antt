@@ -1,7 +1,7 @@
 use Rattle.std.proofs.Common.{◌≡◌, option_map, rules}
 use Rattle.std.specs.Prelude.{string_bytes}
 use Rattle.std.proofs.lemmas.Result.{err_from_is_err_and}
-use Rattle.job_node_file.proofs.Untold.{no_quotas, no_text}
+use Rattle.job_node_file.proofs.Unprinted.{no_quotas, no_text}
 use Rattle.job_node_file.proofs.node_file.print_node_file.Goals as goal
 
 pub returns-in_err-quotas-clause-stops : goal.returns-in_err-quotas-clause-stops

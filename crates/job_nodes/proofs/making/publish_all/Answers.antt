@@ -5,7 +5,7 @@ use Rattle.std.proofs.lemmas.List.Elements.{All-get_or}
 use Rattle.bver.specs.Justified.{AcceptedValue}
 use Rattle.node_programs.specs.Published.{sizes_of}
 use Rattle.job_config.specs.OwnNodes.{IsPublish}
-use Rattle.job_nodes.specs.JobNode.{with_publish}
+use Rattle.job_nodes.specs.JobNode.{with_node_publish}
 use Rattle.job_nodes.proofs.Made.{publish_next, publishes_count, publishes_sizes}
 use Rattle.job_nodes.proofs.making.publish_all.Goals as goal
 
@@ -36,4 +36,4 @@ loop-index-preserved c =
     let first = c.index-publishes-index.result in
     let at_first : first ≡ get_or publishes index first = grind (arith, common_steps) in
     publish_next c.args.node.now publishes index first first _ _ c.loop-index-test.true at_first c.loop-index.invariant
-    (c.in_ok-publish.ensures ∙ ap (λ (a : AcceptedValue). with_publish c.loop-index.node first.0 a) c.in_ok-program.ensures)
+    (c.in_ok-publish.ensures ∙ ap (λ (a : AcceptedValue). with_node_publish c.loop-index.node first.0 a) c.in_ok-program.ensures)

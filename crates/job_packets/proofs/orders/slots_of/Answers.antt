@@ -1,11 +1,11 @@
 use Rattle.std.proofs.Common.{Option, List, ℕ, sym, subst}
 use Rattle.std.specs.Prelude.{IfErr}
 use Rattle.job_packets.specs.HexWords.{Has}
-use Rattle.job_packets.specs.Orders.{Gives}
+use Rattle.job_packets.specs.Orders.{GivesWord}
 use Rattle.job_packets.specs.Slips.{IsWordFault}
 use Rattle.job_packets.specs.Slots.{WritesSlots}
 use Rattle.job_packets.proofs.orders.slots_of.Goals as goal
 
 pub returns-clause-err : goal.returns-clause-err
 returns-clause-err c =
-    subst (λ (o : Option (List ℕ)). IfErr c.slots_written.result (IsWordFault (Has (Gives WritesSlots o)))) (sym c.in_ok-text.ensures.ok) c.slots_written.ensures.err
+    subst (λ (o : Option (List ℕ)). IfErr c.slots_written.result (IsWordFault (Has (GivesWord WritesSlots o)))) (sym c.in_ok-text.ensures.ok) c.slots_written.ensures.err

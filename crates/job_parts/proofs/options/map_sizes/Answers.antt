@@ -26,4 +26,4 @@ returns-clause-err c =
     let are = ap (map (λ part. part.now)) c.as_slice.ensures.value ∙ c.in_ok-parts.ensures in
     let maps = c.in_ok-maps.ensures.ok in
     let written = ap listed_maps (c.as_slice-2.ensures.value ∙ maps.1 ∙ maps_of (λ part. part.now) c.as_slice.result.now c.args.text.now are) in
-    inr (refl, λ list. let told : false ≡ true = c.in-Err.ensures.allowed.1 (subst AreSizes (sym written) list.1) in cc)
+    inr (refl, λ list. let reported : false ≡ true = c.in-Err.ensures.allowed.1 (subst AreSizes (sym written) list.1) in cc)

@@ -18,7 +18,7 @@ push_hex-requires-2 g c = omega (arith, c.loop-chunk.invariant.1, c.as_chunks.en
 
 pub push_text-requires : goal.push_text-requires
 push_text-requires g c =
-    end_fits _ _ _ _ c.loop-chunk.invariant.1 (omega (arith, c.as_chunks.ensures.back_len)) c.requires.behind c.push_hex-2.ensures
+    end_fits _ _ _ _ c.loop-chunk.invariant.1 (omega (arith, c.as_chunks.ensures.back_len)) c.requires.following c.push_hex-2.ensures
 
 pub loop-chunk-preserved : goal.loop-chunk-preserved
 loop-chunk-preserved g c =
@@ -33,6 +33,6 @@ returns g c =
     let chunks = c.as_chunks.result.0.now in
     let parts = ap₂ (λ (bs : List (List ℕ)) (r : List ℕ). concat bs ++ r) c.as_chunks.ensures.front c.as_chunks.ensures.back
     ∙ chunks_and_rest (length c.args.bytes.now / 64) c.args.bytes.now (omega arith) in
-    all_printed c.args.front.items c.args.bytes.now c.as_chunks.result.1.now c.args.behind.now _ _ _ c.loop-chunk.chunk-index chunks _ _ _ _ parts
+    all_printed c.args.front.items c.args.bytes.now c.as_chunks.result.1.now c.args.following.now _ _ _ c.loop-chunk.chunk-index chunks _ _ _ _ parts
     (take_all c.loop-chunk.chunk-index chunks c.loop-chunk-test.false) c.loop-chunk.invariant.0 c.push_hex-2.ensures (c.as_slice-2.ensures.value ∙ c.push_text.ensures)
     c.write_all-2.ensures.bytes

@@ -1,6 +1,6 @@
 use Rattle.std.proofs.Common.{subst}
 use Rattle.initiator.specs.declared.requests.Request.{Request}
-use Rattle.job_rehearse.specs.Judging.{LetsPass}
+use Rattle.job_rehearse.specs.Judging.{LetsPacketPass}
 use Rattle.job_rehearse.specs.Starts.{asked_so_far}
 use Rattle.job_rehearse.proofs.judging.lets_writes.Goals as goal
 
@@ -20,7 +20,7 @@ returns-clause-passes c = record {
   third_is = c.in_ok-third.ensures.passes;
   fourth_is = c.in_ok-fourth.ensures.passes;
   control_is =
-      subst (λ (r : Request). LetsPass c.args.judge.now c.args.loader r c.in_ok-control.control (asked_so_far c.lets_part-4.new.cells) (asked_so_far c.lets_pass.new.cells))
+      subst (λ (r : Request). LetsPacketPass c.args.judge.now c.args.loader r c.in_ok-control.control (asked_so_far c.lets_part-4.new.cells) (asked_so_far c.lets_pass.new.cells))
       c.control_request.ensures.value c.in_ok-control.ensures.passes;
   passes_is = c.all_pass.ensures;
 }

@@ -1,7 +1,7 @@
 use Rattle.std.proofs.Common.{inl, inr, subst}
 use Rattle.std.proofs.lemmas.Result.{IfErr-weaker, IfOk-weaker}
 use Rattle.machine.specs.Sizes.{Maps}
-use Rattle.job_rehearse.proofs.Stopping.{asks_at, stops_more, tells_none}
+use Rattle.job_rehearse.proofs.Stopping.{asks_at, stops_more, reports_none}
 use Rattle.job_rehearse.specs.Places.{sizes_at}
 use Rattle.job_rehearse.specs.Policies.{HoldsAsked, HoldsNotAsked}
 use Rattle.job_rehearse.specs.declared.policies.NoPolicy.{NoPolicy}
@@ -37,20 +37,20 @@ returns-in-Ok-clause-stops g c =
 pub returns-clause-done : goal.returns-clause-done
 returns-clause-done g c =
     let none = subst (λ (m : Maps). HoldsNotAsked g.F.Files.reads c.args.words.now m c.place_in.new.files c.asked_in.new.files c.in-Err.none) c.sizes.ensures c.in-Err.ensures.none in
-    IfOk-weaker c.tell_none.result _ _
-    (λ status told. record {
+    IfOk-weaker c.report_none.result _ _
+    (λ status reported. record {
       place = c.in_ok-place.place;
       between = c.place_in.new.files;
       placed = c.in_ok-place.ensures.place;
-      does = inr (tells_none _ _ _ _ status none told);
+      does = inr (reports_none _ _ _ _ status none reported);
     })
-    c.tell_none.ensures.told
+    c.report_none.ensures.reported
 
 pub returns-clause-stops : goal.returns-clause-stops
 returns-clause-stops g c =
     let holds : NoPolicy → Type 0 = HoldsNotAsked g.F.Files.reads c.args.words.now (sizes_at c.in_ok-place.place) c.place_in.new.files c.asked_in.new.files in
     let none = subst (λ (m : Maps). HoldsNotAsked g.F.Files.reads c.args.words.now m c.place_in.new.files c.asked_in.new.files c.in-Err.none) c.sizes.ensures c.in-Err.ensures.none in
-    IfErr-weaker c.tell_none.result _ _
+    IfErr-weaker c.report_none.result _ _
     (λ halt stops. stops_more _ _ (λ fault is. (
       is.1,
       inr (record {
@@ -60,4 +60,4 @@ returns-clause-stops g c =
         unasked = inl (subst holds is.0 none);
       }),
     )) halt stops)
-    c.tell_none.ensures.stops
+    c.report_none.ensures.stops

@@ -1,7 +1,7 @@
 use Rattle.std.proofs.Common.{inl, inr, subst}
 use Rattle.std.proofs.lemmas.Result.{IfErr-weaker, IfOk-weaker}
 use Rattle.machine.specs.Sizes.{Maps}
-use Rattle.job_rehearse.proofs.Stopping.{stops_more, tells_none}
+use Rattle.job_rehearse.proofs.Stopping.{stops_more, reports_none}
 use Rattle.job_rehearse.specs.Policies.{HoldsBoth, HoldsNotBoth}
 use Rattle.job_rehearse.specs.Places.{sizes_at}
 use Rattle.job_rehearse.specs.declared.policies.NoPolicy.{NoPolicy}
@@ -24,14 +24,14 @@ returns-in-Ok-clause-stops g c =
 pub returns-in-Err-clause-done : goal.returns-in-Err-clause-done
 returns-in-Err-clause-done g c =
     let none = subst (λ (m : Maps). HoldsNotBoth g.F.Files.reads c.args.words.now m c.args.files.now c.policies_in.new.files c.in-Err.none) c.sizes.ensures c.in-Err.ensures.none in
-    IfOk-weaker c.tell_none.result _ _
-    (λ status told. inr (tells_none _ _ _ _ status none told))
-    c.tell_none.ensures.told
+    IfOk-weaker c.report_none.result _ _
+    (λ status reported. inr (reports_none _ _ _ _ status none reported))
+    c.report_none.ensures.reported
 
 pub returns-in-Err-clause-stops : goal.returns-in-Err-clause-stops
 returns-in-Err-clause-stops g c =
     let holds : NoPolicy → Type 0 = HoldsNotBoth g.F.Files.reads c.args.words.now (sizes_at c.args.place.now) c.args.files.now c.policies_in.new.files in
     let none = subst (λ (m : Maps). HoldsNotBoth g.F.Files.reads c.args.words.now m c.args.files.now c.policies_in.new.files c.in-Err.none) c.sizes.ensures c.in-Err.ensures.none in
-    IfErr-weaker c.tell_none.result _ _
+    IfErr-weaker c.report_none.result _ _
     (λ halt stops. stops_more _ _ (λ fault is. inl (is.1, subst holds is.0 none)) halt stops)
-    c.tell_none.ensures.stops
+    c.report_none.ensures.stops

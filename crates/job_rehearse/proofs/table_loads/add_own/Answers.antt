@@ -1,6 +1,6 @@
 use Rattle.std.proofs.Common.{◌∙◌, ◌++◌, ℕ, List, ap, ap₂, length, string_bytes, subst}
 use Rattle.std.proofs.lemmas.Result.{on_ok_weaker}
-use Rattle.job_rehearse.specs.TableLoads.{TellsLoads, lead_of, lines_or_nobody}
+use Rattle.job_rehearse.specs.TableLoads.{PrintsLoads, lead_of, lines_or_nobody}
 use Rattle.job_rehearse.proofs.table_loads.add_own.Goals as goal
 
 pub returns : goal.returns
@@ -13,9 +13,9 @@ returns c =
     on_ok_weaker c.add_lines.result
     (λ added. record {
       lines = lines;
-      tells =
-          subst (λ (l : List ℕ). TellsLoads c.args.ports made made.image.items l lines) lead
-          (subst (λ (i : List ℕ). TellsLoads c.args.ports made i c.as_str.result.now lines) image c.in_ok-lines.ensures);
+      reports =
+          subst (λ (l : List ℕ). PrintsLoads c.args.ports made made.image.items l lines) lead
+          (subst (λ (i : List ℕ). PrintsLoads c.args.ports made i c.as_str.result.now lines) image c.in_ok-lines.ensures);
       added = added ∙ ap₂ (λ (l o : List ℕ). string_bytes c.args.text.now ++ lines_or_nobody l o) lead_again c.as_str-3.ensures.value;
     })
     c.add_lines.ensures

@@ -1,7 +1,7 @@
 use Rattle.std.proofs.Common.{Some, None, rules}
 use Rattle.std.proofs.lemmas.Result.{IfOk-weaker}
 use Rattle.job_rehearse.specs.TableLoads.{AsksTable}
-use Rattle.job_rehearse.proofs.Telling.{mends_some, mends_none}
+use Rattle.job_rehearse.proofs.Reporting.{mends_some, mends_none}
 use Rattle.job_rehearse.proofs.table_loads.mends.Goals as goal
 
 pub returns-in-Some : goal.returns-in-Some

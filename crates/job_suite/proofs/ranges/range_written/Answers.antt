@@ -6,8 +6,8 @@ returns-in_default c = no_extended c.args.part.now _ c.at_colon.ensures.before c
 
 pub returns-in_default-hex_written : goal.returns-in_default-hex_written
 returns-in_default-hex_written c =
-    no_low c.args.part.now _ _ c.at_colon.ensures.behind c.at_dash.ensures.before c.in_default-hex_written.ensures.writes
+    no_low c.args.part.now _ _ c.at_colon.ensures.following c.at_dash.ensures.before c.in_default-hex_written.ensures.writes
 
 pub returns-in_default-hex_written-2 : goal.returns-in_default-hex_written-2
 returns-in_default-hex_written-2 c =
-    no_high c.args.part.now _ _ c.at_colon.ensures.behind c.at_dash.ensures.behind c.in_default-hex_written-2.ensures.writes
+    no_high c.args.part.now _ _ c.at_colon.ensures.following c.at_dash.ensures.following c.in_default-hex_written-2.ensures.writes

@@ -4,7 +4,7 @@ use Rattle.std.proofs.lemmas.Iterator.Splits.{YieldsList-from_str_split}
 use Rattle.std.proofs.lemmas.List.{map_push}
 use Rattle.job_parts.specs.Options.{list_parts}
 use Rattle.job_suite.specs.Ranges.{WriteRanges}
-use Rattle.job_suite.specs.declared.ranges.Range.{Range}
+use Rattle.job_suite.specs.declared.ranges.MemoryRange.{MemoryRange}
 use Rattle.job_suite.proofs.RangeLists.{no_list, one_more_range}
 use Rattle.job_suite.proofs.ranges.ranges_written.Goals as goal
 
@@ -19,7 +19,7 @@ returns-in_default-clause-err c =
 pub loop-part-preserved : goal.loop-part-preserved
 loop-part-preserved c =
     subst (λ (parts : List (List ℕ)). WriteRanges parts c.push.new.self.items) (sym (map_push (λ part. part.now) c.loop-part.yielded c.in-Some.part))
-    (subst (λ (ranges : List Range). WriteRanges (map (λ part. part.now) c.loop-part.yielded ++ c.in-Some.part.now ∷ []) ranges) (sym c.in_ok-push.ensures.items)
+    (subst (λ (ranges : List MemoryRange). WriteRanges (map (λ part. part.now) c.loop-part.yielded ++ c.in-Some.part.now ∷ []) ranges) (sym c.in_ok-push.ensures.items)
     (one_more_range (map (λ part. part.now) c.loop-part.yielded) c.in-Some.part.now c.loop-part.ranges.items _ c.loop-part.invariant c.in-Some-range_written.ensures))
 
 pub returns-clause-ok : goal.returns-clause-ok

@@ -3,5 +3,5 @@ use Rattle.job_texts.proofs.checking.checked.Goals as goal
 
 pub returns-in_err-_accepted-clause-known : goal.returns-in_err-_accepted-clause-known
 returns-in_err-_accepted-clause-known c =
-    let told : c.from_residual.result ≡ Err c.in_err-_accepted.field-0.0 = search rules in
-    rw told c.in_err-_accepted.ensures.known
+    let reported : c.from_residual.result ≡ Err c.in_err-_accepted.field-0.0 = search rules in
+    rw reported c.in_err-_accepted.ensures.known

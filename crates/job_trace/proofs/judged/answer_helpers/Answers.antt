@@ -10,9 +10,9 @@ loop-question-init c =
 
 pub loop-question-preserved : goal.loop-question-preserved
 loop-question-preserved c =
-    let told = c.in-Ok-Told.told in
+    let reported = c.in-Ok-Told.reported in
     let before = c.loop-question.answers.items in
-    let grown : c.push.new.self.items ≡ before ++ told ∷ [] = search rules in
-    let same : c.in-Ok-Told.field-0 ≡ Told told = search rules in
+    let grown : c.push.new.self.items ≡ before ++ reported ∷ [] = search rules in
+    let same : c.in-Ok-Told.field-0 ≡ Told reported = search rules in
     subst (λ (items : List ℕ). AnswersHelpers c.args.port items c.args.world.now c.step.new.world) (sym grown)
-    (answers_more c.args.port before told c.in-Some.event c.in-Ok-Told.field-0 c.args.world.now c.loop-question.world c.step.new.world c.loop-question.invariant c.in-Some.ensures same c.in-Ok-Told.ensures.goes_on)
+    (answers_more c.args.port before reported c.in-Some.event c.in-Ok-Told.field-0 c.args.world.now c.loop-question.world c.step.new.world c.loop-question.invariant c.in-Some.ensures same c.in-Ok-Told.ensures.goes_on)

@@ -15,18 +15,18 @@ pub loop-step-preserved : goal.loop-step-preserved
 loop-step-preserved g c =
     let m = c.loop-step.machine in
     let after = c.trace_step.new.machine in
-    let told = c.in_ok-rest.ensures in
+    let reported = c.in_ok-rest.ensures in
     let old = g.W.Write.contents c.loop-step.out in
     let new = g.W.Write.contents c.trace_step.new.out in
-    let one = subst (λ (left : Option (Bor (List ℕ))). Strides c.args.budget m after c.loop-step.left.now old new left) c.in-Some.is told.printed in
-    let steps = subst (λ (left : Option (Bor (List ℕ))). IfSome left (λ _. after.steps ≡ m.steps + 1)) c.in-Some.is told.steps in
+    let one = subst (λ (left : Option (Bor (List ℕ))). Strides c.args.budget m after c.loop-step.left.now old new left) c.in-Some.is reported.printed in
+    let steps = subst (λ (left : Option (Bor (List ℕ))). IfSome left (λ _. after.steps ≡ m.steps + 1)) c.in-Some.is reported.steps in
     let before = c.loop-step.invariant in
     record {
       steps = steps ∙ ap (λ (k : ℕ). k + 1) before.steps;
       same = record {
-        program = told.run.program ∙ before.same.program;
-        header = told.run.header ∙ before.same.header;
-        sizes = told.run.sizes ∙ before.same.sizes;
+        program = reported.run.program ∙ before.same.program;
+        header = reported.run.header ∙ before.same.header;
+        sizes = reported.run.sizes ∙ before.same.sizes;
       };
       text = goes_on_lines c.args.machine m after c.args.budget c.loop-step._step c.args.answers.now c.loop-step.left.now c.in-Some.rest _ old new before.same before.steps before.text one;
     }

@@ -5,20 +5,20 @@ use Rattle.sched.specs.History.{Start}
 use Rattle.sched.specs.Worlds.{IsLawfulWorld, WorldValue}
 use Rattle.job_config.specs.declared.node_lines.NodeLines.{NodeLines}
 use Rattle.job_nodes.specs.Beginning.{GivesSchedule, HoldsWorld}
-use Rattle.job_parts.specs.Files.{Reads}
+use Rattle.job_parts.specs.Files.{ReadsFile}
 use Rattle.job_parts.specs.Stops.{StopsBy}
-use Rattle.job_parts.specs.Turns.{AreTaken, StopsIn}
+use Rattle.job_parts.specs.Turns.{AreTaken, StopsInLines}
 use Rattle.job_parts.specs.declared.faults.Fault.{Fault}
 use Rattle.job_parts.specs.declared.faults.Fault.TheVariants.{NoMemory}
-use Rattle.job_parts.specs.declared.stops.Halt.{Halt}
-use Rattle.job_parts.specs.declared.stops.Halt.TheVariants.{Ended, Unwritten}
-use Rattle.job_trace.specs.Traced.{IsCutShort, IsNotTraced, IsStuck, TracesFile, TracesLineFrom, TracesLines}
+use Rattle.job_parts.specs.declared.stops.JobStop.{JobStop}
+use Rattle.job_parts.specs.declared.stops.JobStop.TheVariants.{Ended, Unwritten}
+use Rattle.job_trace.specs.Traced.{IsTraceCutShort, IsNotTraced, IsTraceStuck, TracesFile, TracesLineFrom, TracesLines}
 use Rattle.job_trace.specs.declared.trace.Tracing.{Tracing}
 use Rattle.job_trace.proofs.LinesInTurn.{cuts_short, traces_all}
 use Rattle.job_nodes.proofs.Scheduled.{scheduled, world_in}
 use Rattle.job_trace.proofs.trace.trace_file.Goals as goal
 
-module _ {S : Type 0} (reads : Reads S) (args : NodeLines) (before after : S) (old new : Option (List ℕ)) (text : List ℕ) (made : Option WorldValue) (world : WorldValue)
+module _ {S : Type 0} (reads : ReadsFile S) (args : NodeLines) (before after : S) (old new : Option (List ℕ)) (text : List ℕ) (made : Option WorldValue) (world : WorldValue)
     (gives : GivesSchedule reads args before text made after) (is : made ≡ Some world) where
   abbrev held : HoldsWorld reads args.node gives.between world after
   held = world_in reads args before text made after world gives is
@@ -28,7 +28,7 @@ module _ {S : Type 0} (reads : Reads S) (args : NodeLines) (before after : S) (o
       → AreTaken TracesLineFrom (lines_of shown) first last old new → TracesFile reads args before after old new
   traces_file shown first last on empty same all =
       let n = held.node in
-      let lawful = subst (λ (w : WorldValue). IsLawfulWorld n Start w) (sym on) (record { lawful = record { but_told = tt; told = tt }; world = held.is_world }) in
+      let lawful = subst (λ (w : WorldValue). IsLawfulWorld n Start w) (sym on) (record { lawful = record { except_answers = tt; reported = tt }; world = held.is_world }) in
       let traced = traces_all n Start (lines_of shown) first last old new lawful all in
       let feeds = empty ∙ ap (λ (k : ℕ). replicate k []) held.is_world.ports_are.count in
       record {
@@ -44,20 +44,20 @@ module _ {S : Type 0} (reads : Reads S) (args : NodeLines) (before after : S) (o
       }
 
   -- a stop at a line of the text that was read
-  stops_short : (shown : List ℕ) (first last : Tracing) (stop : Halt) → first.world ≡ world → first.feeds ≡ replicate (length world.ports) [] → shown ≡ text
-      → StopsBy (StopsIn TracesLineFrom IsStuck (lines_of shown) first last old new) stop → StopsBy (IsNotTraced reads args before after old new) stop
+  stops_short : (shown : List ℕ) (first last : Tracing) (stop : JobStop) → first.world ≡ world → first.feeds ≡ replicate (length world.ports) [] → shown ≡ text
+      → StopsBy (StopsInLines TracesLineFrom IsTraceStuck (lines_of shown) first last old new) stop → StopsBy (IsNotTraced reads args before after old new) stop
   stops_short shown first last (Unwritten refused) on empty same stop = tt
   stops_short shown first last (Ended fault) on empty same stop =
       let n = held.node in
-      let lawful = subst (λ (w : WorldValue). IsLawfulWorld n Start w) (sym on) (record { lawful = record { but_told = tt; told = tt }; world = held.is_world }) in
+      let lawful = subst (λ (w : WorldValue). IsLawfulWorld n Start w) (sym on) (record { lawful = record { except_answers = tt; reported = tt }; world = held.is_world }) in
       let cut = cuts_short n Start (lines_of shown) first last old new fault lawful stop in
       let feeds = empty ∙ ap (λ (k : ℕ). replicate k []) held.is_world.ports_are.count in
       inr (record {
         text = text;
         node = n;
         scheduled = scheduled reads args before text made after world gives is;
-        cut_short = subst (λ (t : List ℕ). IsCutShort n (lines_of t) Start (replicate n.ports []) old new fault) same
-            (subst (λ (f : List (List ℕ)). IsCutShort n (lines_of shown) Start f old new fault) feeds cut);
+        cut_short = subst (λ (t : List ℕ). IsTraceCutShort n (lines_of t) Start (replicate n.ports []) old new fault) same
+            (subst (λ (f : List (List ℕ)). IsTraceCutShort n (lines_of shown) Start f old new fault) feeds cut);
       })
 
   -- memory was refused to what takes them

@@ -15,7 +15,7 @@ use Rattle.policy_table.specs.Slots.{table_slots}
 use Rattle.policy_table.specs.declared.port_rules.PortRule.{PortRule}
 use Rattle.policy_table.specs.declared.rules.Rule.{Rule}
 use Rattle.policy.proofs.Made.{made, made_justified, own_program, plain_cells, plain_meaning}
-use Rattle.policy.proofs.Refused.{is_told, port_cells, table_cells, table_fits}
+use Rattle.policy.proofs.Refused.{is_reported, port_cells, table_cells, table_fits}
 use Rattle.policy.proofs.Weighing.{weighs}
 use Rattle.policy.proofs.compiler.compile.Goals as goal
 
@@ -31,7 +31,7 @@ compiled sizes rules none meaning = record {
 
 pub returns-in-Some-clause-fault : goal.returns-in-Some-clause-fault
 returns-in-Some-clause-fault c =
-    is_told c.args.sizes.now c.args.table.now _ (sym c.fault_for.ensures ∙ c.in-Some.is)
+    is_reported c.args.sizes.now c.args.table.now _ (sym c.fault_for.ensures ∙ c.in-Some.is)
 
 pub image_of_rules-requires-clause-room : goal.image_of_rules-requires-clause-room
 image_of_rules-requires-clause-room c =

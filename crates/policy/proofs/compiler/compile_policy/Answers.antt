@@ -25,11 +25,11 @@ compiled sizes policy none meaning = record {
 }
 
 -- the fault is the first of the table
-told : (first found : Option TextFault) (fault : TextFault) → found ≡ first → found ≡ Some fault → IsPortFault first fault
-told first found fault is some = subst (λ (o : Option TextFault). IsPortFault o fault) (sym some ∙ is) refl
+reported : (first found : Option TextFault) (fault : TextFault) → found ≡ first → found ≡ Some fault → IsPortFault first fault
+reported first found fault is some = subst (λ (o : Option TextFault). IsPortFault o fault) (sym some ∙ is) refl
 
 pub returns-in-Some-clause-fault : goal.returns-in-Some-clause-fault
-returns-in-Some-clause-fault c = told _ _ _ c.fault_for.ensures c.in-Some.is
+returns-in-Some-clause-fault c = reported _ _ _ c.fault_for.ensures c.in-Some.is
 
 pub image_of_rules-requires-clause-room : goal.image_of_rules-requires-clause-room
 image_of_rules-requires-clause-room c =

@@ -1,13 +1,13 @@
 use Rattle.std.proofs.Common.{◌≡◌, Result, Ok, refl, arith}
 use Rattle.bpf.specs.Program.{Program}
-use Rattle.bpf.specs.Reading.{Fails}
+use Rattle.bpf.specs.Reading.{FailsReading}
 use Rattle.bpf.specs.declared.fault.ImageFault.{ImageFault}
 use Rattle.bpf.specs.declared.fault.ImageFault.TheVariants as faults
 use Rattle.policy.proofs.Weighing.{are_parts, slots_many}
 use Rattle.policy.proofs.compiler.image_of.Goals as goal
 
 -- a reading that succeeds has no fault except that of memory
-no_other : (fault : ImageFault) (read : Result Program ImageFault) (p : Program) → Fails fault read → read ≡ Ok p → ¬ (fault ≡ faults.Memory) → ⊥
+no_other : (fault : ImageFault) (read : Result Program ImageFault) (p : Program) → FailsReading fault read → read ≡ Ok p → ¬ (fault ≡ faults.Memory) → ⊥
 no_other faults.Magic read p fails is other = cc
 no_other faults.Version read p fails is other = cc
 no_other faults.Length read p fails is other = cc

@@ -1,7 +1,7 @@
 use Rattle.std.proofs.Common.{◌≡◌, ◌≢◌, ◌<◌, length, get_or, rules}
 use Rattle.rmap.specs.declared.verdict.Verdict.{Verdict}
 use Rattle.rmap.specs.Verdict.{verdict_number, verdict_of}
-use Rattle.policy_table.proofs.VerdictWords.{no_leading_zero, is_decimal, is_word, is_none}
+use Rattle.policy_table.proofs.VerdictWords.{no_leading_zero, is_decimal, is_this_word, is_none}
 use Rattle.policy_table.proofs.fields.verdict_of.Goals as goal
 use Rattle.policy_table.proofs.fields.verdict_of.Goals.{else-word-gt1-via-then-word-gt1+else-starts_with, else-word-gt1-via-else-word-gt1}
 
@@ -22,7 +22,7 @@ returns-then-number-from c =
       | else-word-gt1-via-else-word-gt1 w ↦ search rules
     ] in
     let same : c.in_ok-number.number ≡ verdict_number c.of_word-verdict.result = search rules in
-    is_word c.args.word.now c.in_ok-number.number c.of_word-verdict.result c.in_ok-number.ensures same alone
+    is_this_word c.args.word.now c.in_ok-number.number c.of_word-verdict.result c.in_ok-number.ensures same alone
 
 pub returns-else-number-from : goal.returns-else-number-from
 returns-else-number-from c =

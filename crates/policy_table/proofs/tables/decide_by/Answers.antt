@@ -3,7 +3,7 @@ use Rattle.machine.specs.declared.calls.Call.{Call}
 use Rattle.machine.specs.Memory.{header}
 use Rattle.rmap.specs.Verdict.{verdict_number}
 use Rattle.policy_table.specs.declared.matching.Match.{Match}
-use Rattle.policy_table.specs.Walked.{told}
+use Rattle.policy_table.specs.Walked.{reported}
 use Rattle.policy_table.specs.Tickets.{next_answer, answers_after}
 use Rattle.policy_table.proofs.Answering.{answered}
 use Rattle.policy_table.proofs.tables.decide_by.Goals as goal
@@ -18,5 +18,5 @@ returns-clause-verdict c =
     let found_is = c.match_of-found.ensures.found_is in
     c.from.ensures ∙ c.number.ensures.value
     ∙ ap (λ (found : Match). verdict_number found.verdict) (rw (c.new-answers.ensures) at found_is)
-    ∙ c.first_rule_matches.ensures.verdict c.args.rules.now (header c.args.front.now c.args.tail.now) (told next_answer answers_after c.args.rules.now (header c.args.front.now c.args.tail.now) c.args.answers.now)
+    ∙ c.first_rule_matches.ensures.verdict c.args.rules.now (header c.args.front.now c.args.tail.now) (reported next_answer answers_after c.args.rules.now (header c.args.front.now c.args.tail.now) c.args.answers.now)
     ∙ ap (λ (d : List Call × ℕ). d.1) (answered c.args.rules.now (header c.args.front.now c.args.tail.now) c.args.answers.now)

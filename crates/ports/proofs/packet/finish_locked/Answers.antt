@@ -5,7 +5,7 @@ use Rattle.ports.proofs.packet.finish_locked.Goals as goal
 pub returns-clause-ended : goal.returns-clause-ended
 returns-clause-ended g c = record {
   before = c.deref_mut-kept.result.now;
-  behind = c.finish.new.kept;
+  following = c.finish.new.kept;
   result = c.finish.result;
   bank = search rules;
   finished = search rules;

@@ -4,7 +4,7 @@ use Rattle.annals.specs.Chains.{done_for}
 use Rattle.std.specs.Prelude.{slice_index_or}
 use Rattle.lemmas.proofs.Prefixes.{prefix_trans}
 use Rattle.ports.proofs.Served.{known_more}
-use Rattle.ports.specs.Serves.{IsTold}
+use Rattle.ports.specs.Serves.{IsWorkerInformed}
 use Rattle.ports.proofs.serves.all_known.Goals as goal
 
 pub loop-one-preserved : goal.loop-one-preserved
@@ -13,10 +13,10 @@ loop-one-preserved g c =
     let new = c.tell.new.known in
     let longer : IsPrefix old new = prefix_trans old c.learn.new.self new c.learn.ensures.this c.tell.ensures.known in
     known_more c.acts_grow.ensures c.loop-one.one-index c.args.ended.now old new c.one-item.result c.loop-one-test.true longer
-    (subst (λ e. IsTold new e.worker) c.one-item.is (prefix_trans _ c.learn.new.self new c.learn.ensures.that c.tell.ensures.known, c.tell.ensures.told)) c.loop-one.invariant
+    (subst (λ e. IsWorkerInformed new e.worker) c.one-item.is (prefix_trans _ c.learn.new.self new c.learn.ensures.that c.tell.ensures.known, c.tell.ensures.reported)) c.loop-one.invariant
 
-pub returns-clause-told : goal.returns-clause-told
-returns-clause-told g c = λ k d within.
+pub returns-clause-reported : goal.returns-clause-reported
+returns-clause-reported g c = λ k d within.
     let e = slice_index_or c.args.ended.now k d in
     let known = c.loop-one.known in
     let last = c.show_all.new.known in

@@ -3,7 +3,7 @@ use Rattle.std.specs.Vec.Iter.{into_iter_items, into_iter_len}
 use Rattle.std.specs.List.{All}
 use mathlib.Core.List.{IsPrefix}
 use Rattle.annals.specs.Chains.{done_for}
-use Rattle.ports.specs.Serves.{IsOneMissing, IsTold, IsTotalOf}
+use Rattle.ports.specs.Serves.{IsOneMissing, IsWorkerInformed, IsTotalOf}
 use Rattle.target.specs.Lines.{CountsAllOf}
 use Rattle.ports.proofs.serves.gather.Given as goal
 
@@ -17,4 +17,4 @@ invariant-loop-one g l =
     × All (λ w. IsPrefix w.front l.whole) l.workers.items
     × All (λ w. CountsAllOf w.pass.pass l.whole) l.workers.items
     × All (λ w. done_for w.pass.pass.port l.whole ≡ w.pass.asked) l.workers.items
-    × All (λ e. IsTold l.whole e.worker) (into_iter_items l.one-iterator)
+    × All (λ e. IsWorkerInformed l.whole e.worker) (into_iter_items l.one-iterator)

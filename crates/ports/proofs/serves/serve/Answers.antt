@@ -19,12 +19,12 @@ returns-in-Some-clause-served g c =
     subst (λ w. IsBack sent failed w (slice_index_or ended k end).worker (slice_index_or ended k end).report)
     (ap (λ h. h.promise.0.value) kept.handle_is ∙ started.ensures.each k kept.handle worker low) kept.kept in
     let sum = subst (λ o. IfSome o (λ report. (started.result.all ≡ true) × (c.gather-workers.result.1 ≡ Some report))) c.in-Some.is c.of_all.ensures.sum in
-    let told : IsTotalOf (map (λ e. e.report) ended) c.in-Some.report
+    let reported : IsTotalOf (map (λ e. e.report) ended) c.in-Some.report
     = subst (λ o. IfSome o (IsTotalOf (map (λ e. e.report) ended))) sum.1 c.gather-workers.ensures.total in
     let long : length ended ≡ length old
     = sym c.join_each.result.ok.0 ∙ c.join_each.ensures.len ∙ started.ensures.len sum.0 ∙ c.args.workers.ok.0 in
     subst (λ new. HaveServed sent failed banks ports old new c.in-Some.report) (sym c.gather-workers.ensures.workers)
-    (have_served sent failed banks ports old ended started.result.rest.items served back long c.in-Some.report told c.loads_are_apart.ensures.entries c.loads_are_apart.ensures.listed (subst ShareOneHistory c.gather-workers.ensures.workers c.gather-workers.ensures.history))
+    (have_served sent failed banks ports old ended started.result.rest.items served back long c.in-Some.report reported c.loads_are_apart.ensures.entries c.loads_are_apart.ensures.listed (subst ShareOneHistory c.gather-workers.ensures.workers c.gather-workers.ensures.history))
 
 pub returns-in-Some-clause-back : goal.returns-in-Some-clause-back
 returns-in-Some-clause-back g c = λ _. (returns-in-Some-clause-served g c).served

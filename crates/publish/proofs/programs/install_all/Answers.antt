@@ -6,7 +6,7 @@ use Rattle.annals.specs.Publishes.{line_loading}
 use Rattle.bver.specs.Justified.{AcceptedValue}
 use Rattle.node_programs.specs.Histories.{entry, longer_history}
 use Rattle.node_programs.specs.Published.{sizes_of}
-use Rattle.publish.specs.Firsts.{IsFirst, first_entry}
+use Rattle.publish.specs.Firsts.{IsFirstProgram, first_entry}
 use Rattle.publish.proofs.Firsts.{line_next, line_port, publishes_next, sizes_stay}
 use Rattle.publish.proofs.programs.install_all.Goals as goal
 
@@ -16,9 +16,9 @@ install-requires g c =
     let index = c.loop-index.index in
     let first = c.index-firsts-index.result in
     let at_first : first ≡ get_or firsts index first = grind (arith, common_steps) in
-    let is : IsFirst (sizes_of c.args.publisher.now) (get_or firsts index first) =
-    All-get_or (IsFirst (sizes_of c.args.publisher.now)) firsts index first c.loop-index-test.true c.requires.firsts in
-    let own : IsFirst (sizes_of c.args.publisher.now) first = subst (IsFirst (sizes_of c.args.publisher.now)) (sym at_first) is in
+    let is : IsFirstProgram (sizes_of c.args.publisher.now) (get_or firsts index first) =
+    All-get_or (IsFirstProgram (sizes_of c.args.publisher.now)) firsts index first c.loop-index-test.true c.requires.firsts in
+    let own : IsFirstProgram (sizes_of c.args.publisher.now) first = subst (IsFirstProgram (sizes_of c.args.publisher.now)) (sym at_first) is in
     ap (λ (a : AcceptedValue). a.sizes) c.in_ok-program.ensures ∙ own.1
     ∙ sym (ap sizes_of c.loop-index.invariant.0 ∙ sizes_stay c.args.publisher.now (map first_entry (take index firsts)) c.requires.some)
 

@@ -4,11 +4,11 @@ use Rattle.regions.proofs.Searching.{rank}
 use Rattle.regions.proofs.cutting.+fill_from.Given as goal
 
 abbrev pub decreases-fill_from : goal.decreases-fill_from
-decreases-fill_from g l = length (g.Q.Question.tests l.question.now) - l.number
+decreases-fill_from g l = length (g.Q.PointQuestion.tests l.question.now) - l.number
 
 abbrev pub invariant-cuts : goal.invariant-cuts
 invariant-cuts g l =
-    IsFilling (g.Q.Question.tests l.question) (g.Q.Question.holds l.question) (g.Q.Question.fails l.question) l.region l.number l.part l.at l.cutter l.sides l.fn.cells.items l.cells.items
+    IsFilling (g.Q.PointQuestion.tests l.question) (g.Q.PointQuestion.holds l.question) (g.Q.PointQuestion.fails l.question) l.region l.number l.part l.at l.cutter l.sides l.fn.cells.items l.cells.items
 
 abbrev pub decreases-cuts : goal.decreases-cuts
-decreases-cuts g l = 10 * (length (g.Q.Question.tests l.question) - l.at) + rank l.sides
+decreases-cuts g l = 10 * (length (g.Q.PointQuestion.tests l.question) - l.at) + rank l.sides

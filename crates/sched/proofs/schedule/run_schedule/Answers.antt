@@ -18,6 +18,6 @@ loop-event-preserved c =
     record {
       count = rw grown (omega (arith, before.count, length-append c.loop-event.yielded (c.in-Some.event ∷ []), length-append c.loop-event.outcomes.items (outcome ∷ [])));
       bytes = bytes;
-      judged = all_judged_once c.every_history_judges_once.ensures node (history_from Start (c.loop-event.yielded ++ c.in-Some.event ∷ []) c.push.new.self.items) c.in_ok-world.ensures.node bytes world.lawful.but_told;
+      judged = all_judged_once c.every_history_judges_once.ensures node (history_from Start (c.loop-event.yielded ++ c.in-Some.event ∷ []) c.push.new.self.items) c.in_ok-world.ensures.node bytes world.lawful.except_answers;
       world = world;
     }

@@ -4,9 +4,9 @@ use Rattle.single_node_c.proofs.opening.made.Goals as goal
 
 pub returns-in_err-factory-clause-fault : goal.returns-in_err-factory-clause-fault
 returns-in_err-factory-clause-fault c =
-    let told : c.from_residual.result ≡ Err c.in_err-factory.field-0.0 = search rules in
+    let reported : c.from_residual.result ≡ Err c.in_err-factory.field-0.0 = search rules in
     refused_unopened c.args.ports c.args.banks.now c.args.maps.now c.args.image.now c.in_err-factory.field-0.0
-    c.in_err-factory.ensures.unfit c.from_residual.result told
+    c.in_err-factory.ensures.unfit c.from_residual.result reported
 
 pub returns-clause-fault : goal.returns-clause-fault
 returns-clause-fault c =

@@ -7,9 +7,9 @@ use Rattle.single_node_c.proofs.opening.program_of.Goals as goal
 
 pub returns-in_err-image : goal.returns-in_err-image
 returns-in_err-image c =
-    let told : c.from_residual.result ≡ Err c.in_err-image.field-0.0 = search rules in
+    let reported : c.from_residual.result ≡ Err c.in_err-image.field-0.0 = search rules in
     let maps = c.args.sizes.now in let bytes = c.args.image.now in
-    subst (λ (r : Result AcceptedValue Unfit). MatchResult r (IsAccepted maps bytes) (IsImageUnfit maps bytes)) (sym told)
+    subst (λ (r : Result AcceptedValue Unfit). MatchResult r (IsAccepted maps bytes) (IsImageUnfit maps bytes)) (sym reported)
     (c.in_err-image.ensures.fault maps)
 
 pub returns-in-Err-2 : goal.returns-in-Err-2

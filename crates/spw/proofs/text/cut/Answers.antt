@@ -1,9 +1,9 @@
 use Rattle.std.proofs.Common.{refl}
-use Rattle.spw.proofs.CutLines.{behind_feed, last_line, line_cut}
+use Rattle.spw.proofs.CutLines.{after_feed, last_line, line_cut}
 use Rattle.spw.proofs.text.cut.Goals as goal
 
 pub range_from-requires : goal.range_from-requires
-range_from-requires c = λ some. behind_feed c.args.text.now c.as_bytes.result.now c.in-Some.end c.as_bytes.ensures.value c.in-Some.ensures c.utf8.text
+range_from-requires c = λ some. after_feed c.args.text.now c.as_bytes.result.now c.in-Some.end c.as_bytes.ensures.value c.in-Some.ensures c.utf8.text
 
 pub returns-in-Some : goal.returns-in-Some
 returns-in-Some c = λ some.

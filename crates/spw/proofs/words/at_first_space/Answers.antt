@@ -1,8 +1,8 @@
-use Rattle.spw.proofs.SpaceCuts.{behind_space, no_space_before, none_found, space_cut}
+use Rattle.spw.proofs.SpaceCuts.{after_space, no_space_before, none_found, space_cut}
 use Rattle.spw.proofs.words.at_first_space.Goals as goal
 
 pub range_from-requires : goal.range_from-requires
-range_from-requires c = λ some. behind_space c.args.text.now c.as_bytes.result.now c.in-Some.place c.as_bytes.ensures.value (c.in-Some.ensures.0.high, c.in-Some.ensures.1) c.utf8.text
+range_from-requires c = λ some. after_space c.args.text.now c.as_bytes.result.now c.in-Some.place c.as_bytes.ensures.value (c.in-Some.ensures.0.high, c.in-Some.ensures.1) c.utf8.text
 
 pub returns-in-Some : goal.returns-in-Some
 returns-in-Some c = (

@@ -1,14 +1,14 @@
-use Rattle.spw.proofs.SpaceCuts.{behind_space, no_space_behind, none_found, space_cut}
+use Rattle.spw.proofs.SpaceCuts.{after_space, no_space_after, none_found, space_cut}
 use Rattle.spw.proofs.words.at_last_space.Goals as goal
 
 pub range_from-requires : goal.range_from-requires
-range_from-requires c = λ some. behind_space c.args.text.now c.as_bytes.result.now c.in-Some.place c.as_bytes.ensures.value (c.in-Some.ensures.0.high, c.in-Some.ensures.1) c.utf8.text
+range_from-requires c = λ some. after_space c.args.text.now c.as_bytes.result.now c.in-Some.place c.as_bytes.ensures.value (c.in-Some.ensures.0.high, c.in-Some.ensures.1) c.utf8.text
 
 pub returns-in-Some : goal.returns-in-Some
 returns-in-Some c = (
   space_cut c.args.text.now c.as_bytes.result.now c.in-Some.place c.as_bytes.ensures.value (c.in-Some.ensures.0.high, c.in-Some.ensures.1)
       c.range.result.now c.range_from.result.now c.range.ensures.value c.range_from.ensures.value,
-  no_space_behind c.args.text.now c.as_bytes.result.now c.in-Some.place c.as_bytes.ensures.value c.in-Some.ensures.0 c.range_from.result.now c.range_from.ensures.value,
+  no_space_after c.args.text.now c.as_bytes.result.now c.in-Some.place c.as_bytes.ensures.value c.in-Some.ensures.0 c.range_from.result.now c.range_from.ensures.value,
 )
 
 pub returns-in-None : goal.returns-in-None

@@ -5,12 +5,12 @@ use Rattle.std.specs.List.{All}
 use Rattle.std.proofs.lemmas.List.Elements.{All-tail}
 use Rattle.bank.specs.Records.{BankValue}
 use Rattle.annals.specs.Banks.{IsFresh, KeptValue}
-use Rattle.target.specs.Nodes.{AreNumbered}
+use Rattle.target.specs.Nodes.{AreInPlace}
 use Rattle.target.specs.Unshared.{banks_of, chain_numbers}
 use Rattle.target.proofs.unshared.kept_banks.Goals as goal
 
 -- one more with the next number
-numbered_more : (xs : List ℕ) (x : ℕ) → AreNumbered xs → x ≡ length xs → AreNumbered (xs ++ x ∷ [])
+numbered_more : (xs : List ℕ) (x : ℕ) → AreInPlace xs → x ≡ length xs → AreInPlace (xs ++ x ∷ [])
 numbered_more xs x are is = λ k below.
     elim (cases_lt k (length xs)) [
       | inl low ↦ get_or_append_left xs (x ∷ []) 0 k low ∙ are k low
@@ -29,10 +29,10 @@ banks_more [] one bank left is = ap (λ (b : BankValue). b ∷ left) is
 banks_more (k ∷ kept) one bank left is = ap (λ (l : List BankValue). k.bank ∷ l) (banks_more kept one bank left is)
 
 -- the next has its number, and its bank comes from those that are left
-kept_numbers : (kept all : List KeptValue) (one : KeptValue) → all ≡ kept ++ one ∷ [] → AreNumbered (chain_numbers kept) → one.chain.number ≡ length kept → AreNumbered (chain_numbers all)
+kept_numbers : (kept all : List KeptValue) (one : KeptValue) → all ≡ kept ++ one ∷ [] → AreInPlace (chain_numbers kept) → one.chain.number ≡ length kept → AreInPlace (chain_numbers all)
 kept_numbers kept all one is are next =
     let whole : chain_numbers all ≡ chain_numbers kept ++ one.chain.number ∷ [] = ap chain_numbers is ∙ numbers_more kept one in
-    subst AreNumbered (sym whole) (numbered_more (chain_numbers kept) one.chain.number are (next ∙ sym (length-map kept (λ (k : KeptValue). k.chain.number))))
+    subst AreInPlace (sym whole) (numbered_more (chain_numbers kept) one.chain.number are (next ∙ sym (length-map kept (λ (k : KeptValue). k.chain.number))))
 
 kept_banks : (kept all : List KeptValue) (one : KeptValue) (bank : BankValue) (before left : List BankValue) → all ≡ kept ++ one ∷ [] → before ≡ bank ∷ left → one.bank ≡ bank
     → banks_of all ++ left ≡ banks_of kept ++ before

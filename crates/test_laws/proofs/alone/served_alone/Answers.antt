@@ -11,7 +11,7 @@ loop-turn-preserved c =
 
 pub returns : goal.returns
 returns c =
-    let came = c.loop-turn.invariant in record {
-      came = came;
-      quotas = λ map key limit count few matches. c.quotas_hold_alone.ensures c.args.config.now c.args.factory came.first _ came.way map key limit count came.fresh few matches;
+    let received = c.loop-turn.invariant in record {
+      received = received;
+      quotas = λ map key limit count few matches. c.quotas_hold_alone.ensures c.args.config.now c.args.factory received.first _ received.way map key limit count received.fresh few matches;
     }

@@ -1,7 +1,7 @@
 use Rattle.std.proofs.Common.{◌≡◌, sym, ◌∙◌, ap, subst, arith, List, length}
 use mathlib.Core.List.{IsPrefix}
 use Rattle.annals.specs.declared.deed.Link.{Link}
-use Rattle.annals.specs.Chains.{IsWhole, chain_of}
+use Rattle.annals.specs.Chains.{IsChainWhole, chain_of}
 use Rattle.lemmas.proofs.Prefixes.{prefix_trans, prefix_whole}
 use Rattle.annals.proofs.Dues.{chain_prefix}
 use Rattle.annals.proofs.Turns.{looks_moves}
@@ -37,5 +37,5 @@ returns-clause-whole g c =
     let pre = chain_prefix key mine all (prefix_trans mine both all own step.6) in
     let whole : chain_of key mine ≡ chain_of key all = prefix_whole (chain_of key mine) (chain_of key all) pre (omega (arith, size)) in
     let front : IsPrefix c.front.inside.seen.log all = prefix_trans c.front.inside.seen.log both all c.learn.ensures.3 step.6 in
-    let is : IsWhole (record { number = key; log = mine }) c.front.inside.seen.log = record { log = all; seen = front; whole = sym whole; asked = step.7.2 } in
+    let is : IsChainWhole (record { number = key; log = mine }) c.front.inside.seen.log = record { log = all; seen = front; whole = sym whole; asked = step.7.2 } in
     rw (← c.self.view_is, ← c.front.view_is) is

@@ -1,7 +1,7 @@
 use Rattle.std.proofs.Common.{◌≡◌, ◌<◌, sym, refl, ◌∙◌, ap, subst, List, [], ◌∷◌, ◌++◌, length}
 use mathlib.Core.List.{IsPrefix}
 use Rattle.annals.specs.declared.deed.Link.{Link}
-use Rattle.annals.specs.Chains.{ChainValue, IsDue, IsLast, IsLastOf, chain_of, link, next_of}
+use Rattle.annals.specs.Chains.{ChainValue, IsDue, IsLastDeed, IsLastOf, chain_of, link, next_of}
 use Rattle.annals.proofs.Turns.{adds_moves, added_same, added_next, added_some}
 use Rattle.annals.proofs.chains.Chain.push.Goals as goal
 
@@ -12,9 +12,9 @@ compare_exchange-one-requires g c =
     let book = sym (ap (λ w. w.book) h.word_is) in
     let own : IsPrefix c.self.inside.seen.log c.front.inside.seen.log =
     subst (λ (l : List Link). IsPrefix c.self.inside.seen.log l) (sym c.front.view_is) (subst (λ (x : ChainValue). IsPrefix x.log c.args.front.now) (sym c.self.view_is) c.requires.begins) in
-    let due : IsDue c.self.inside.word.key (g.D.Tells.deed c.args.told.now) c.front.inside.seen.log =
-    subst (λ (l : List Link). IsDue c.self.inside.word.key (g.D.Tells.deed c.args.told.now) l) (sym c.front.view_is)
-    (subst (λ (x : ChainValue). IsDue x.number (g.D.Tells.deed c.args.told.now) c.args.front.now) (sym c.self.view_is) c.requires.due) in (
+    let due : IsDue c.self.inside.word.key (g.D.Announces.deed c.args.reported.now) c.front.inside.seen.log =
+    subst (λ (l : List Link). IsDue c.self.inside.word.key (g.D.Announces.deed c.args.reported.now) l) (sym c.front.view_is)
+    (subst (λ (x : ChainValue). IsDue x.number (g.D.Announces.deed c.args.reported.now) c.args.front.now) (sym c.self.view_is) c.requires.due) in (
       ap (λ w. w.tracked) h.word_is,
       c.front.invariant ∙ book,
       h.book ∙ book,
@@ -57,10 +57,10 @@ returns-clause-added g c =
     let chain : e.chain ≡ key = ap (λ (l : Link). l.chain) c.plain-offer.ensures.1 in
     let place : e.place ≡ length (chain_of key own) = ap (λ (l : Link). l.place) c.plain-offer.ensures.1 in
     let same : chain_of key before ≡ chain_of key own = added_same key own v w e chain place begins step.7 in
-    let deed = g.D.Tells.deed c.args.told.now in
+    let deed = g.D.Announces.deed c.args.reported.now in
     let is : e ≡ link key (length (chain_of key before)) deed c.drawn-fresh.result.nib.key =
     c.plain-offer.ensures.1 ∙ ap (λ (l : List Link). link key (length l) deed c.drawn-fresh.result.nib.key) (sym same) in
-    let last : IsLast key v w deed = record {
+    let last : IsLastDeed key v w deed = record {
       before = before;
       next = c.drawn-fresh.result.nib.key;
       log = step.7.log ∙ ap (λ (l : Link). before ++ l ∷ []) is;

@@ -6,7 +6,7 @@ use Rattle.bank.specs.Answer.{Answer}
 use Rattle.annals.specs.declared.deed.Act.TheVariants.{Leaves}
 use Rattle.annals.specs.declared.deed.Deed.TheVariants.{Does}
 use Rattle.annals.specs.Chains.{chain_of, line_with, link}
-use Rattle.annals.specs.Banks.{CountsOn, KeptValue, memory_after, answer_after, entries_of, IsDone}
+use Rattle.annals.specs.Banks.{CountsOn, KeptValue, memory_after, answer_after, entries_of, IsDoneAtBank}
 use Rattle.annals.proofs.Counts.{counts_on, counts_same, share_stays, next_share_is, numbers_before, counts_after, still_counted}
 use Rattle.bank.proofs.Banks.{fitting}
 use Rattle.annals.proofs.Replays.{last_is, room_of, number_is, entries_after, same_memory, answers, replayed, at_place}
@@ -59,22 +59,22 @@ returns-in-Some-clause-done g c =
     let room : has_room b j.port ≡ true = room_of b s j result.number applied.number (sym c.is_some.ensures ∙ c.if-is_some.true) in
     let entries = c.entries.ensures ∙ (ap (λ (v : BankValue). v.journal.entries) applied.bank ∙ entries_after b s j room) in
     let is : entry ≡ entry_of s j (answer_of b j).status = last_is b.journal.entries c.entries.result.now (entry_of s j (answer_of b j).status) entry entries c.in-Some.ensures.value in
-    let told : entry ≡ entry_of s j result.status = is ∙ ap (λ t. entry_of s j t) (sym applied.status) in
+    let reported : entry ≡ entry_of s j result.status = is ∙ ap (λ t. entry_of s j t) (sym applied.status) in
     let same : memory_after k before ≡ memory_of b = same_memory k c.self.inside.chain.log before b h.replayed chain in
     let answer_is : answer_of b j ≡ answer_after k before j = answers k before b j room same in
-    let done : IsDone k c.args.front.now c.leave.new.front s j result c.apply-applied.new.reply = record {
+    let done : IsDoneAtBank k c.args.front.now c.leave.new.front s j result c.apply-applied.new.reply = record {
       place = at_place k j.place (ap (λ (v : KeptValue). is_place_of v.chain.number j.place) c.self.view_is ∙ c.requires.place);
       last = record {
         before = before;
         next = last.next;
-        log = last.log ∙ ap (λ (e : EntryValue). before ++ link k (length (chain_of k before)) (Does (Leaves e)) last.next ∷ []) told;
+        log = last.log ∙ ap (λ (e : EntryValue). before ++ link k (length (chain_of k before)) (Does (Leaves e)) last.next ∷ []) reported;
         seen = last.seen;
       };
       status = applied.status ∙ ap (λ (a : Answer). a.status) answer_is;
       numbers = numbers_before k c.self.inside.chain.log before b s j fit h.counted chain;
       reply_is = applied.reply ∙ ap (λ (a : Answer). a.reply) answer_is;
     } in
-    rw (← c.self.view_is) (subst (λ (o : Option ℕ). IfSome o (λ n. IsDone k c.args.front.now c.leave.new.front s j result c.apply-applied.new.reply)) (sym (applied.number ∙ number_is b s j room)) done)
+    rw (← c.self.view_is) (subst (λ (o : Option ℕ). IfSome o (λ n. IsDoneAtBank k c.args.front.now c.leave.new.front s j result c.apply-applied.new.reply)) (sym (applied.number ∙ number_is b s j room)) done)
 
 pub leave-requires-clause-own : goal.leave-requires-clause-own
 leave-requires-clause-own g c =
@@ -101,9 +101,9 @@ returns-in-Some-clause-asked g c =
     let room : has_room b j.port ≡ true = room_of b s j result.number applied.number (sym c.is_some.ensures ∙ c.if-is_some.true) in
     let entries = c.entries.ensures ∙ (ap (λ (v : BankValue). v.journal.entries) applied.bank ∙ entries_after b s j room) in
     let is : entry ≡ entry_of s j (answer_of b j).status = last_is b.journal.entries c.entries.result.now (entry_of s j (answer_of b j).status) entry entries c.in-Some.ensures.value in
-    let told : entry ≡ entry_of s j result.status = is ∙ ap (λ t. entry_of s j t) (sym applied.status) in
+    let reported : entry ≡ entry_of s j result.status = is ∙ ap (λ t. entry_of s j t) (sym applied.status) in
     let asked : c.leave.new.self ≡ line_with c.args.line.now k (Leaves (entry_of s j result.status)) =
-    c.leave.ensures.asked ∙ (ap (λ (n : ℕ). line_with c.args.line.now n (Leaves entry)) c.self.invariant.0 ∙ ap (λ (e : EntryValue). line_with c.args.line.now k (Leaves e)) told) in
+    c.leave.ensures.asked ∙ (ap (λ (n : ℕ). line_with c.args.line.now n (Leaves entry)) c.self.invariant.0 ∙ ap (λ (e : EntryValue). line_with c.args.line.now k (Leaves e)) reported) in
     rw (← c.self.view_is) (subst (λ (o : Option ℕ). IfSome o (λ n. c.leave.new.self ≡ line_with c.args.line.now k (Leaves (entry_of s j result.status)))) (sym (applied.number ∙ number_is b s j room)) asked)
 
 pub returns-in-Some-clause-unasked : goal.returns-in-Some-clause-unasked

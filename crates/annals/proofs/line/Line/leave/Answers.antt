@@ -4,7 +4,7 @@ use Rattle.annals.specs.declared.deed.Act.{Act}
 use Rattle.annals.specs.declared.deed.Deed.{Deed}
 use Rattle.annals.specs.declared.deed.Deed.TheVariants.{Does, Asks}
 use Rattle.annals.specs.declared.deed.Link.{Link}
-use Rattle.annals.specs.Chains.{ChainValue, Due, IsDue, IsLastOf, IsLine, LineValue, asked_by, asked_in, chain_of, done_for, line_of, line_with, link, owner_of}
+use Rattle.annals.specs.Chains.{ChainValue, Due, IsDue, IsLastOf, IsLineChain, LineValue, asked_by, asked_in, chain_of, done_for, line_chain_of, line_with, link, owner_of}
 use Rattle.lemmas.proofs.Prefixes.{prefix_trans}
 use Rattle.annals.proofs.Dues.{all_left, asked_more, asks_next, between_same}
 use Rattle.annals.proofs.line.Line.leave.Goals as goal
@@ -16,24 +16,24 @@ begins_last chain seen known reached deed pre is =
     prefix_trans seen known reached pre (prefix_trans known before reached is.last.seen (_, sym is.last.log))
 
 -- what a line asks for is due then
-due_then : (port bank : ℕ) (e : Act) (own : ChainValue) (left known reached : List Link) → IsLine port own left → IsPrefix left known → IsLastOf own known reached (Asks (bank, e))
+due_then : (port bank : ℕ) (e : Act) (own : ChainValue) (left known reached : List Link) → IsLineChain port own left → IsPrefix left known → IsLastOf own known reached (Asks (bank, e))
     → asked_by port reached ≡ done_for port reached ++ (bank, e) ∷ []
 due_then port bank e own left known reached is pre asked =
     let before = asked.last.before in
-    let same : chain_of (line_of port) before ≡ chain_of (line_of port) own.log = subst (λ (n : ℕ). chain_of n before ≡ chain_of n own.log) is.number asked.whole in
+    let same : chain_of (line_chain_of port) before ≡ chain_of (line_chain_of port) own.log = subst (λ (n : ℕ). chain_of n before ≡ chain_of n own.log) is.number asked.whole in
     let place = length (chain_of own.number before) in
-    let more : reached ≡ before ++ link (line_of port) place (Asks (bank, e)) asked.last.next ∷ [] =
+    let more : reached ≡ before ++ link (line_chain_of port) place (Asks (bank, e)) asked.last.next ∷ [] =
     asked.last.log ∙ ap (λ (n : ℕ). before ++ link n place (Asks (bank, e)) asked.last.next ∷ []) is.number in
     asks_next port place asked.last.next own.log before left reached (bank, e) asked.asked same is.left (prefix_trans left known before pre asked.last.seen) more
 
 -- and the line asked for it after what it asked for before
-asked_then : (port bank : ℕ) (e : Act) (own : ChainValue) (left known reached : List Link) → IsLine port own left → IsLastOf own known reached (Asks (bank, e))
+asked_then : (port bank : ℕ) (e : Act) (own : ChainValue) (left known reached : List Link) → IsLineChain port own left → IsLastOf own known reached (Asks (bank, e))
     → asked_by port reached ≡ asked_by port own.log ++ (bank, e) ∷ []
 asked_then port bank e own left known reached is asked =
     let before = asked.last.before in
-    let same : chain_of (line_of port) before ≡ chain_of (line_of port) own.log = subst (λ (n : ℕ). chain_of n before ≡ chain_of n own.log) is.number asked.whole in
+    let same : chain_of (line_chain_of port) before ≡ chain_of (line_chain_of port) own.log = subst (λ (n : ℕ). chain_of n before ≡ chain_of n own.log) is.number asked.whole in
     let place = length (chain_of own.number before) in
-    let more : reached ≡ before ++ link (line_of port) place (Asks (bank, e)) asked.last.next ∷ [] =
+    let more : reached ≡ before ++ link (line_chain_of port) place (Asks (bank, e)) asked.last.next ∷ [] =
     asked.last.log ∙ ap (λ (n : ℕ). before ++ link n place (Asks (bank, e)) asked.last.next ∷ []) is.number in
     ap (asked_by port) more ∙ (asked_more port place asked.last.next before (bank, e) ∙ ap (λ (ls : List Link). asked_in ls ++ (bank, e) ∷ []) same)
 
@@ -49,13 +49,13 @@ left_then port bank e chain known reached own is pre due added =
 
 pub push-requires-clause-begins : goal.push-requires-clause-begins
 push-requires-clause-begins g c =
-    begins_last c.self.inside.chain c.args.chain.now.log c.learn.new.self c.add.new.front (Asks (c.args.number, (g.A.TellsAct.act c.args.act.now)))
+    begins_last c.self.inside.chain c.args.chain.now.log c.learn.new.self c.add.new.front (Asks (c.args.number, (g.A.AnnouncesAct.act c.args.act.now)))
     (prefix_trans c.args.chain.now.log c.tell.new.front c.learn.new.self c.tell.ensures.chain c.learn.ensures.this) c.add.ensures.added
 
 pub push-requires-clause-due : goal.push-requires-clause-due
 push-requires-clause-due g c =
     let port = c.self.inside.port in
-    let e = (g.A.TellsAct.act c.args.act.now) in
+    let e = (g.A.AnnouncesAct.act c.args.act.now) in
     let front = c.add.new.front in
     let due = due_then port c.args.number e c.self.inside.chain c.self.inside.left c.learn.new.self front c.self.invariant c.learn.ensures.that c.add.ensures.added in
     let own : owner_of e ≡ port = c.requires.own ∙ sym (ap (λ (l : LineValue). l.port) c.self.view_is) in
@@ -65,7 +65,7 @@ push-requires-clause-due g c =
 pub invariant_of-self : goal.invariant_of-self
 invariant_of-self g c =
     let port = c.self.inside.port in
-    let e = (g.A.TellsAct.act c.args.act.now) in
+    let e = (g.A.AnnouncesAct.act c.args.act.now) in
     let chain = c.args.chain.now in
     let front = c.add.new.front in
     let due = due_then port c.args.number e c.self.inside.chain c.self.inside.left c.learn.new.self front c.self.invariant c.learn.ensures.that c.add.ensures.added in
@@ -82,7 +82,7 @@ invariant_of-self g c =
 pub returns-clause-added : goal.returns-clause-added
 returns-clause-added g c =
     let added = c.push.ensures.added in
-    let known : IsPrefix c.args.front.now c.add.new.front = begins_last c.self.inside.chain c.args.front.now c.learn.new.self c.add.new.front (Asks (c.args.number, (g.A.TellsAct.act c.args.act.now)))
+    let known : IsPrefix c.args.front.now c.add.new.front = begins_last c.self.inside.chain c.args.front.now c.learn.new.self c.add.new.front (Asks (c.args.number, (g.A.AnnouncesAct.act c.args.act.now)))
     (prefix_trans c.args.front.now c.tell.new.front c.learn.new.self c.tell.ensures.front c.learn.ensures.this) c.add.ensures.added in
     record {
       last = record {
@@ -98,7 +98,7 @@ returns-clause-added g c =
 pub returns-clause-asked : goal.returns-clause-asked
 returns-clause-asked g c =
     let port = c.self.inside.port in
-    let e = (g.A.TellsAct.act c.args.act.now) in
+    let e = (g.A.AnnouncesAct.act c.args.act.now) in
     let asked = asked_then port c.args.number e c.self.inside.chain c.self.inside.left c.learn.new.self c.add.new.front c.self.invariant c.add.ensures.added in
     ap (λ (ds : List Due). record { port = port; asked = ds }) (ap (asked_by port) c.add.ensures.log ∙ asked)
     ∙ ap (λ (l : LineValue). line_with l c.args.number e) c.self.view_is

@@ -5,8 +5,8 @@ use Rattle.lemmas.proofs.Prefixes.{prefix_trans}
 use Rattle.annals.proofs.Dues.{done_prefix}
 use Rattle.annals.proofs.line.Line.tell.Goals as goal
 
-pub returns-clause-told : goal.returns-clause-told
-returns-clause-told g c =
+pub returns-clause-reported : goal.returns-clause-reported
+returns-clause-reported g c =
     let port = c.self.inside.port in
     let own = c.self.inside.chain.log in
     let front = c.learn.new.self in

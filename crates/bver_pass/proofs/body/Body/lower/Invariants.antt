@@ -1,6 +1,6 @@
 use Rattle.std.proofs.Common.{◌<◌}
 use Rattle.bver_pass.specs.Heads.{AreLowered}
-use Rattle.bver_pass.specs.Table.{knowledge_in}
+use Rattle.bver_pass.specs.StateTable.{knowledge_in}
 use Rattle.bver_pass.proofs.body.Body.lower.Given as goal
 
 -- the registers so far are lowered if they fall

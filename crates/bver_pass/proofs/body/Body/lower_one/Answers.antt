@@ -2,7 +2,7 @@ use Rattle.std.proofs.Common.{rules, ◌≡◌, ◌≢◌, ℕ, ◌≤◌}
 use Rattle.std.specs.Prelude.{IsTrue}
 use Rattle.bver_form.specs.Lowered.{is_lowered}
 use Rattle.bver_pass.specs.Heads.{Falls}
-use Rattle.bver_pass.specs.Table.{knowledge_in}
+use Rattle.bver_pass.specs.StateTable.{knowledge_in}
 use Rattle.bver_pass.proofs.Lowering.{lowered_one}
 use Rattle.bver_pass.proofs.body.Body.lower_one.Goals as goal
 

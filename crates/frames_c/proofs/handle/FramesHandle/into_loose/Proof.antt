@@ -32,7 +32,7 @@ use Rattle.std_alloc.proofs.ResultValues.{and_tt}
 use Rattle.loose.proofs.Values.{Loose, closed, fit, heap_al, holds, parts}
 use Rattle.frames_c.specs.contracts.handle.FramesHandle.{the_row as R}
 use Rattle.frames_c.specs.contracts.checked.CheckedFrames.{the_row as C}
-use Rattle.frames_c.specs.Held.{mark}
+use Rattle.frames_c.specs.Held.{reader_mark}
 use Rattle.frames_c.proofs.Values.{word, handle_out}
 use Rattle.frames_c.specs.contracts.handle.FramesHandle.into_loose as f
 use Rattle.frames_c.proofs.handle.FramesHandle.into_loose.Statement.{statement}
@@ -53,7 +53,7 @@ into_loose_spec 𝓤 𝓛 𝓜 𝓡 wired =
     let begins : (w h : Val) → vs ≡ w ∷ [] → hs ≡ h ∷ [] → ent 𝓤 (Run (w ∷ h ∷ [])) (Run (vs ++ (hs ++ []))) = λ w h e f.
     subst (λ (us : List Val). ent 𝓤 (Run (w ∷ h ∷ [])) (Run us)) (sym (λ i. e i ++ (f i ++ []))) (id⊢ 𝓤 (Run (w ∷ h ∷ []))) in
     qed 𝓛 ((‵ ftrue ⊛ ‵ (owns (types_at f.ended.signature.params z.0.0) z.0.3 z.0.4)) ∷ raw ((c z.0.0 z.0.3).requires z.1) ∷ []) ∵ split ! $ move ! (1 ∷ []) $ fsplit ! $ move ! (1 ∷ []) $ fsplit ! $
-    handle_tells heap_al ! a hs (λ h eh fits. move ! (2 ∷ []) $ handle_out ! d vs (λ ws. holds mark C ! d.inside d.live d.kept
+    handle_tells heap_al ! a hs (λ h eh fits. move ! (2 ∷ []) $ handle_out ! d vs (λ ws. holds reader_mark C ! d.inside d.live d.kept
     -- [the allocator's handle; nothing; nothing; no clause]
     (λ empty zero. let w : Val = word d.inside 0 in
     suffices ! (Run (w ∷ h ∷ [])) (begins w h (ws ∙ ap (λ (n : ℕ). word d.inside n ∷ []) zero) eh) $
@@ -68,7 +68,7 @@ into_loose_spec 𝓤 𝓛 𝓜 𝓡 wired =
     returns ! (look_at ! 0 refl) $ free_all ! refl $ keep ! (5 ∷ 0 ∷ 2 ∷ 1 ∷ []) $
     by ! (leaves 𝓛 f.ended stayed c z (live 0 vnil) None (tt, (tt, tt)) (tt, (tt, tt))))))
     -- [the block; the allocator's handle; nothing; nothing; no clause]
-    (λ b o x full one at. let w : Val = word (block_ptr b o) mark in let made : Val = parts b o h in let typed = fit C Z LZ ghosts b o h fits in let v₁ : Val = live 1 (vcons made vnil) in
+    (λ b o x full one at. let w : Val = word (block_ptr b o) reader_mark in let made : Val = parts b o h in let typed = fit C Z LZ ghosts b o h fits in let v₁ : Val = live 1 (vcons made vnil) in
     let l : L.Denot = record { at = block_ptr b o; alloc = a; value = x } in let good : Good (layout Out) v₁ = (and_tt _ typed.0, (record { fits = lit< tt }, (typed.1, tt))) in
     suffices ! (Run (w ∷ h ∷ [])) (begins w h (ws ∙ (λ i. word (at i) (one i) ∷ [])) eh) $
     enter ! 𝓣.C 𝓣.Λ fn (w ∷ h ∷ []) Post $ alloc_all ! (λ ls. pass_all ! refl ((tt, (tt, (record { fits = lit< tt }, tt))), (fits, tt)) $ let Ev = env fn.locals ls in

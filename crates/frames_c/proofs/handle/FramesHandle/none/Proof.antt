@@ -15,8 +15,8 @@ use denote.Steps.{nothing}
 use denote.Triple.Walked.{Stays}
 use Rattle.core.specs.declared.option.Option.TheVariants.{None}
 use Rattle.std.proofs.raw_atomic.Walks.{proved_at, leaves}
-use Rattle.loose.specs.Held.{held}
-use Rattle.frames_c.specs.Held.{mark}
+use Rattle.loose.specs.Held.{held_handle}
+use Rattle.frames_c.specs.Held.{reader_mark}
 use Rattle.frames_c.specs.contracts.checked.CheckedFrames.{the_row as C}
 use Rattle.frames_c.proofs.Values.{word, handle_in}
 use Rattle.frames_c.specs.contracts.handle.FramesHandle.none as f
@@ -33,7 +33,7 @@ none_spec 𝓤 𝓛 𝓜 𝓡 wired =
     qed 𝓛 ((‵ ftrue ⊛ ‵ (owns (types_at f.ended.signature.params z.0.0) z.0.3 z.0.4)) ∷ raw ((c z.0.0 z.0.3).requires z.1) ∷ []) ∵ split ! $
     enter ! _ _ _ _ _ $ alloc_all ! (λ l. pass_all ! refl tt $
     sets ! (agg ! (and_then ! (lit ! tt) (and_then ! (lit ! tt) (no_more !)))) refl (tt, (record { fits = lit< tt }, (record { fits = lit< tt }, tt))) $
-    feq_i ! _ 0 0 refl $ use1 𝓛 (‵ (held mark C null_ptr 0 None)) (id⊢ 𝓤 _) $ handle_in ! null_ptr 0 None (lit< tt) $
+    feq_i ! _ 0 0 refl $ use1 𝓛 (‵ (held_handle reader_mark C null_ptr 0 None)) (id⊢ 𝓤 _) $ handle_in ! null_ptr 0 None (lit< tt) $
     use0 𝓛 (raw (fact 𝓤 (None ≡ None))) (fact_i 𝓤 _ (emp 𝓤) refl) $ nothing ! $
     returns ! (look_at ! 0 refl) $ free_all ! refl $ keep ! (3 ∷ 0 ∷ 2 ∷ 1 ∷ []) $
     by ! (leaves 𝓛 f.ended stayed c z (word null_ptr 0) (record { inside = null_ptr; live = 0; kept = None }) tt tt)))

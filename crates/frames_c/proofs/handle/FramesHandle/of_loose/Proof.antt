@@ -22,8 +22,8 @@ use Rattle.std.proofs.alloc.Global.TheLaws as heap_laws
 use Rattle.std.specs.contracts.impls.GlobalAllocator.TheImpl.{ghosts}
 use Rattle.std.proofs.raw_atomic.Walks.{proved_at, leaves}
 use Rattle.loose.proofs.Values.{Loose, fit, opened, parts}
-use Rattle.loose.specs.Held.{held}
-use Rattle.frames_c.specs.Held.{mark}
+use Rattle.loose.specs.Held.{held_handle}
+use Rattle.frames_c.specs.Held.{reader_mark}
 use Rattle.frames_c.specs.contracts.checked.CheckedFrames.{the_row as C}
 use Rattle.frames_c.proofs.Values.{word, handle_in}
 use Rattle.frames_c.specs.contracts.handle.FramesHandle.of_loose as f
@@ -50,7 +50,7 @@ of_loose_spec 𝓤 𝓛 𝓜 𝓡 wired =
     sets ! (of_opd ! (get ! refl)) refl (tt, tt) $
     sets ! (agg ! (and_then ! (get ! refl) (and_then ! (lit ! tt) (no_more !)))) refl (tt, (tt, (record { fits = lit< tt }, tt))) $
     -- [the block; the allocator's handle; nothing; nothing; no clause]
-    feq_i ! _ mark mark refl $ fjoin ! $ use1 𝓛 (‵ (held mark C (block_ptr b o) mark (Some v.value))) (id⊢ 𝓤 _) $ handle_in ! (block_ptr b o) mark (Some v.value) (lit< tt) $
+    feq_i ! _ reader_mark reader_mark refl $ fjoin ! $ use1 𝓛 (‵ (held_handle reader_mark C (block_ptr b o) reader_mark (Some v.value))) (id⊢ 𝓤 _) $ handle_in ! (block_ptr b o) reader_mark (Some v.value) (lit< tt) $
     use0 𝓛 (raw (fact 𝓤 (Some v.value ≡ Some v.value))) (fact_i 𝓤 _ (emp 𝓤) refl) $ nothing ! $ nothing ! $ fjoin ! $
     returns ! (look_at ! 0 refl) $ free_all ! refl $ keep ! (5 ∷ 0 ∷ 2 ∷ 1 ∷ []) $
-    by ! (leaves 𝓛 f.ended stayed c z (word (block_ptr b o) mark) (record { inside = block_ptr b o; live = mark; kept = Some v.value }) (tt, tt) (tt, tt)))))
+    by ! (leaves 𝓛 f.ended stayed c z (word (block_ptr b o) reader_mark) (record { inside = block_ptr b o; live = reader_mark; kept = Some v.value }) (tt, tt) (tt, tt)))))

@@ -12,15 +12,15 @@ refuses : (line : List ℕ) (fault : BadLine) (parts node : JobNodeValue) (held 
 refuses line fault parts node held is unfed =
     subst (λ (s : JobNodeValue). RefusesLine line fault s (with_held parts held)) is (record { held = held; unfed = unfed; same = refl })
 
-feeds : (line : List ℕ) (came : Option (ℕ × Cargo)) (parts node : JobNodeValue) (held : List (List ℕ))
-    → parts ≡ node → IsFed line parts.held held came → FeedsLine line came node (with_held parts held)
-feeds line came parts node held is fed =
-    subst (λ (s : JobNodeValue). FeedsLine line came s (with_held parts held)) is (record { held = held; fed = fed; same = refl })
+feeds : (line : List ℕ) (received : Option (ℕ × Cargo)) (parts node : JobNodeValue) (held : List (List ℕ))
+    → parts ≡ node → IsFed line parts.held held received → FeedsLine line received node (with_held parts held)
+feeds line received parts node held is fed =
+    subst (λ (s : JobNodeValue). FeedsLine line received s (with_held parts held)) is (record { held = held; fed = fed; same = refl })
 
-pub returns-in_err-came-clause-refused : goal.returns-in_err-came-clause-refused
-returns-in_err-came-clause-refused c =
+pub returns-in_err-received-clause-refused : goal.returns-in_err-received-clause-refused
+returns-in_err-received-clause-refused c =
     let gone = err_from_is_err_and c.from_residual.result c.from_residual.ensures.1 in
-    rw (gone.1, gone.2) (refuses _ _ _ _ c.take_line.new.self c.self.view_is c.in_err-came.ensures.refused)
+    rw (gone.1, gone.2) (refuses _ _ _ _ c.take_line.new.self c.self.view_is c.in_err-received.ensures.refused)
 
 pub returns-clause-fed : goal.returns-clause-fed
-returns-clause-fed c = feeds _ _ _ _ c.take_line.new.self c.self.view_is c.in_ok-came.ensures.fed
+returns-clause-fed c = feeds _ _ _ _ c.take_line.new.self c.self.view_is c.in_ok-received.ensures.fed

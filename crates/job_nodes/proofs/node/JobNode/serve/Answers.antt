@@ -1,5 +1,5 @@
 use Rattle.std.proofs.Common.{refl, rules, subst}
-use Rattle.single_node.specs.Serving.{Serves as ServesAlone}
+use Rattle.single_node.specs.Serving.{ServesPacketAt as ServesAlone}
 use Rattle.job_nodes.specs.JobNode.{JobNodeValue, alone, job_node}
 use Rattle.job_nodes.proofs.Banks.{served_stays}
 use Rattle.job_nodes.proofs.node.JobNode.serve.Goals as goal

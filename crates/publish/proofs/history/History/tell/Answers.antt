@@ -7,8 +7,8 @@ use Rattle.publish.proofs.history.History.tell.Goals as goal
 pub returns-clause-old : goal.returns-clause-old
 returns-clause-old g c = prefix_trans _ c.count-least.new.front _ c.count-least.ensures.seen c.settle-taken.ensures.seen
 
-pub returns-clause-told : goal.returns-clause-told
-returns-clause-told g c =
+pub returns-clause-reported : goal.returns-clause-reported
+returns-clause-reported g c =
     let learnt = subst (λ (l : List Link). IsPrefix l c.settle-taken.new.front) (c.front-own.ensures ∙ c.beginning.ensures.log) c.settle-taken.ensures.table in
     rw (← c.self.view_is) (c.publishes_grow.ensures _ _ learnt)
 

@@ -2,9 +2,9 @@ use Rattle.std.proofs.Common.{ap, subst, arith, ◌∙◌, length, ◌<◌}
 use Rattle.std.specs.Arc.{arc_value}
 use Rattle.rmap.specs.Command.{command_kind}
 use Rattle.node_parts.specs.Slots.{slot_of}
-use Rattle.sched.specs.Begins.{HasBegun}
+use Rattle.sched.specs.BeginsHistory.{HasBegun}
 use Rattle.sched.specs.contracts.world.World.{the_view}
-use Rattle.sched.specs.contracts.shown.Shown.{the_view as shown_view}
+use Rattle.sched.specs.contracts.shown.SlotVersion.{the_view as shown_view}
 use Rattle.sched.proofs.Beginning.{IsBegin, has_begun, read_there}
 use Rattle.sched.proofs.world.World.opening.Goals as goal
 
@@ -15,7 +15,7 @@ returns-clause-begun c = λ port run begun.
     let shown = shown_view c.shown.inside in
     let a = arc_value c.in_ok-program.program in
     let here = subst (λ packet. HasBegun port packet place a shown.1 run) c.into_packet-packet.ensures (subst (λ at. HasBegun port c.into_packet-packet.result at a shown.1 run) c.place-place.ensures.value begun) in
-    let below : c.from.result < length w.programs = omega (arith, c.from.ensures, c.slot-slot.ensures.few, c.self.told) in
+    let below : c.from.result < length w.programs = omega (arith, c.from.ensures, c.slot-slot.ensures.few, c.self.reported) in
     let begins : IsBegin c.args.self.now w c.args.admitted.packet place c.from.result shown a run = record {
       is = c.self.view_is;
       placed = c.requires.placed;

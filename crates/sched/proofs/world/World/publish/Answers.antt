@@ -39,7 +39,7 @@ invariant_of-self c =
     let read = read_at c.self.view_is c.from-at.ensures c.requires c.index_mut.ensures.value in
     let due : IsPublishDueAt c.args.self.now w c.from-at.result c.args.port c.in-Some.verdict c.index.result.now c.index_mut.result.now = record { first = first; read = read; due = sym c.in-Some.is ∙ c.publish_due.ensures } in
     let decides = decided_again _ w _ _ _ _ _ _ between read c.in_ok-decision.ensures.decides in
-    let ends : IsPublishAt c.args.self.now w c.from-at.result c.args.port c.in-Some.verdict c.index.result.now c.index_mut.result.now c.end_write.new.self c.in_ok-decision.decision c.told-told.result.0 c.told-told.result.1 c.end_write.new.reply = record { due = due; decides = decides; status_is = c.told-told.ensures.status; loaded_is = c.told-told.ensures.loaded; reply_is = c.end_write.ensures.reply; written = c.end_write.ensures.port } in
+    let ends : IsPublishAt c.args.self.now w c.from-at.result c.args.port c.in-Some.verdict c.index.result.now c.index_mut.result.now c.end_write.new.self c.in_ok-decision.decision c.reported-reported.result.0 c.reported-reported.result.1 c.end_write.new.reply = record { due = due; decides = decides; status_is = c.reported-reported.ensures.status; loaded_is = c.reported-reported.ensures.loaded; reply_is = c.end_write.ensures.reply; written = c.end_write.ensures.port } in
     let shown : IsShownAfter w c.in_ok-decision.decision c.show.new.programs c.show.new.count = record { programs_are = c.show.ensures.programs; count_is = c.show.ensures.count } in
     published_world _ w _ _ _ _ _ _ _ _ _ _ _ _ ends shown c.self.invariant
 
@@ -51,6 +51,6 @@ returns-clause-goes_on c =
     let read = read_at c.self.view_is c.from-at.ensures c.requires c.index_mut.ensures.value in
     let due : IsPublishDueAt c.args.self.now w c.from-at.result c.args.port c.in-Some.verdict c.index.result.now c.index_mut.result.now = record { first = first; read = read; due = sym c.in-Some.is ∙ c.publish_due.ensures } in
     let decides = decided_again _ w _ _ _ _ _ _ between read c.in_ok-decision.ensures.decides in
-    let ends : IsPublishAt c.args.self.now w c.from-at.result c.args.port c.in-Some.verdict c.index.result.now c.index_mut.result.now c.end_write.new.self c.in_ok-decision.decision c.told-told.result.0 c.told-told.result.1 c.end_write.new.reply = record { due = due; decides = decides; status_is = c.told-told.ensures.status; loaded_is = c.told-told.ensures.loaded; reply_is = c.end_write.ensures.reply; written = c.end_write.ensures.port } in
+    let ends : IsPublishAt c.args.self.now w c.from-at.result c.args.port c.in-Some.verdict c.index.result.now c.index_mut.result.now c.end_write.new.self c.in_ok-decision.decision c.reported-reported.result.0 c.reported-reported.result.1 c.end_write.new.reply = record { due = due; decides = decides; status_is = c.reported-reported.ensures.status; loaded_is = c.reported-reported.ensures.loaded; reply_is = c.end_write.ensures.reply; written = c.end_write.ensures.port } in
     let shown : IsShownAfter w c.in_ok-decision.decision c.show.new.programs c.show.new.count = record { programs_are = c.show.ensures.programs; count_is = c.show.ensures.count } in
     published_ends _ w _ _ _ _ _ _ _ _ _ _ _ _ _ c.image_laws.ensures.read ends shown c.of.ensures

@@ -4,10 +4,10 @@ use Rattle.annals.specs.Chains.{done_for}
 use Rattle.target.specs.Passes.{PortPass}
 use Rattle.target.proofs.pass.Pass.tell.Goals as goal
 
-pub returns-clause-told : goal.returns-clause-told
-returns-clause-told g c =
+pub returns-clause-reported : goal.returns-clause-reported
+returns-clause-reported g c =
     let inside = c.self.inside in
     let front = c.tell.new.front in
     let own : IsPrefix inside.loader.line.asked (done_for inside.context.port front) =
-    subst (λ (port : ℕ). IsPrefix inside.loader.line.asked (done_for port front)) c.self.invariant.1.line_is c.tell.ensures.told in
+    subst (λ (port : ℕ). IsPrefix inside.loader.line.asked (done_for port front)) c.self.invariant.1.line_is c.tell.ensures.reported in
     subst (λ (h : PortPass). IsPrefix h.asked (done_for h.pass.port front)) c.self.view_is own

@@ -2,7 +2,7 @@ use Rattle.std.proofs.Common.{◌<◌, ◌∙◌, length, map, sym, ap, subst}
 use Rattle.bank.specs.Records.{extent_of}
 use Rattle.annals.specs.declared.deed.Act.TheVariants.{Sets}
 use Rattle.annals.specs.declared.deed.Deed.TheVariants.{Does}
-use Rattle.annals.specs.Chains.{IsLast, line_with}
+use Rattle.annals.specs.Chains.{IsLastDeed, line_with}
 use Rattle.target.proofs.Setting.{IsFoundAt, extents_with, found_inside, found_number, found_numbers, found_set, place_below}
 use Rattle.target.proofs.unshared.UnsharedNode.set.Goals as goal
 
@@ -36,7 +36,7 @@ pub returns-clause-last : goal.returns-clause-last
 returns-clause-last g c =
     let found : IsFoundAt c.args.self.now c.self.inside.banks.items c.args.number c.from.result c.args.address (length c.args.bytes.now) c.index_mut-kept.result.now
     = record { view_is = c.self.view_is; place_is = c.from.ensures; read = c.index_mut-kept.ensures.value; inside = c.requires.inside } in
-    subst (λ n. IsLast n c.args.front.now c.set-journal.new.front (Does (Sets (c.args.address, c.args.bytes.now)))) (found_number found c.self.invariant.0) c.set-journal.ensures.last
+    subst (λ n. IsLastDeed n c.args.front.now c.set-journal.new.front (Does (Sets (c.args.address, c.args.bytes.now)))) (found_number found c.self.invariant.0) c.set-journal.ensures.last
 
 pub returns-clause-asked : goal.returns-clause-asked
 returns-clause-asked g c =

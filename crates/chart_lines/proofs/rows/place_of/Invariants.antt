@@ -1,7 +1,0 @@
-use Rattle.std.proofs.Common.{◌≢◌, take}
-use Rattle.std.specs.Prelude.{All}
-use Rattle.chart_lines.specs.Rows.{RowValue}
-use Rattle.chart_lines.proofs.rows.place_of.Given as goal
-
-abbrev pub invariant-loop-place : goal.invariant-loop-place
-invariant-loop-place l = All (λ (row : RowValue). row.told ≢ l.told) (take l.place l.rows)

@@ -1,9 +1,0 @@
-use Rattle.std.proofs.Common.{take}
-use Rattle.std.specs.Io.KnownBytes.{Appends}
-use Rattle.std.specs.List.{flat_map}
-use Rattle.job_live.specs.Telling.{entry_line}
-use Rattle.job_live.proofs.telling.print_journal.Given as goal
-
-abbrev pub invariant-loop-entry : goal.invariant-loop-entry
-invariant-loop-entry g l =
-    Appends (g.W.Write.contents l.fn.out) (g.W.Write.contents l.out) (flat_map entry_line (take l.entry-index l.entries))

@@ -1,6 +1,0 @@
-use Rattle.std.proofs.Common.{◌≡◌, drop}
-use Rattle.policy_table.specs.Room.{length_from, length_told as told_of}
-use Rattle.policy_table.proofs.room.length_told.Given as goal
-
-abbrev pub invariant-loop-own : goal.invariant-loop-own
-invariant-loop-own l = length_from l.version l.room (drop l.own-index l.rules) ≡ told_of l.version l.rules

@@ -1,9 +1,0 @@
-use Rattle.std.proofs.Common.{◌≡◌, ◌≤◌, length}
-use Rattle.spw.specs.Paths.{behind_path}
-use Rattle.spw.proofs.paths.behind_path.Given as goal
-
-abbrev pub invariant-loop-rest : goal.invariant-loop-rest
-invariant-loop-rest l = (behind_path l.rest ≡ behind_path l.bytes) × (length l.rest ≤ length l.bytes)
-
-abbrev pub decreases-loop-rest : goal.decreases-loop-rest
-decreases-loop-rest l = length l.rest
