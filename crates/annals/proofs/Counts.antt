@@ -10,7 +10,7 @@ use Rattle.bank.specs.Records.{BankValue, ShareValue, JudgedValue, EntryValue, n
 use Rattle.annals.specs.declared.deed.Act.TheVariants.{Leaves, Sets, Rotates, Publishes}
 use Rattle.annals.specs.declared.deed.Deed.{Deed}
 use Rattle.annals.specs.declared.deed.Deed.TheVariants.{Opens, Does, Asks, Shows}
-use Rattle.annals.specs.declared.deed.Link.{Link}
+use Rattle.annals.specs.declared.deed.HistoryEntry.{HistoryEntry}
 use Rattle.annals.specs.Chains.{ChainValue, LineValue, at_bank, chain_of, line_with, link}
 use Rattle.annals.specs.Banks.{CountsOn, numbers_at, with_entry, entries_in, entries_of, memory_after, zeros, IsBankKept}
 use Rattle.annals.proofs.Dues.{at_append, at_other, at_own, numbers_append, own_snoc}
@@ -26,27 +26,27 @@ with_append (Does (Publishes x)) xs ys = refl
 with_append (Asks x) xs ys = refl
 with_append Shows xs ys = refl
 
-entries_snoc : (ls : List Link) (k place next : ℕ) (e : EntryValue) → entries_in (ls ++ link k place (Does (Leaves e)) next ∷ []) ≡ entries_in ls ++ e ∷ []
+entries_snoc : (ls : List HistoryEntry) (k place next : ℕ) (e : EntryValue) → entries_in (ls ++ link k place (Does (Leaves e)) next ∷ []) ≡ entries_in ls ++ e ∷ []
 entries_snoc [] k place next e = refl
 entries_snoc (m ∷ ls) k place next e = ap (λ (es : List EntryValue). with_entry m.deed es) (entries_snoc ls k place next e) ∙ with_append m.deed (entries_in ls) (e ∷ [])
 
 -- a deed of no command leaves the entries as they are
-entries_stay : (ls : List Link) (l : Link) → with_entry l.deed [] ≡ [] → entries_in (ls ++ l ∷ []) ≡ entries_in ls
+entries_stay : (ls : List HistoryEntry) (l : HistoryEntry) → with_entry l.deed [] ≡ [] → entries_in (ls ++ l ∷ []) ≡ entries_in ls
 entries_stay [] l none = none
 entries_stay (m ∷ ls) l none = ap (λ (es : List EntryValue). with_entry m.deed es) (entries_stay ls l none)
 
 -- before the command the port had the entries from 0 up to its share's number
-pub numbers_before : (k : ℕ) (old before : List Link) (b : BankValue) (s : ShareValue) (j : JudgedValue) → fits b s j ≡ true
+pub numbers_before : (k : ℕ) (old before : List HistoryEntry) (b : BankValue) (s : ShareValue) (j : JudgedValue) → fits b s j ≡ true
     → ((port : ℕ) → port < length b.counts → numbers_of port (entries_of k old) ≡ range_with_len 0 (get_or b.counts port 0))
     → chain_of k before ≡ chain_of k old → numbers_of j.port (entries_of k before) ≡ range_with_len 0 s.number
 numbers_before k old before b s j fit counted same =
     let fitted = fitting b s j fit in
-    ap (λ (l : List Link). numbers_of j.port (entries_in l)) same ∙ (counted j.port fitted.below ∙ ap (λ (n : ℕ). range_with_len 0 n) (sym fitted.number))
+    ap (λ (l : List HistoryEntry). numbers_of j.port (entries_in l)) same ∙ (counted j.port fitted.below ∙ ap (λ (n : ℕ). range_with_len 0 n) (sym fitted.number))
 
 pub counts_after : (b : BankValue) (s : ShareValue) (j : JudgedValue) → has_room b j.port ≡ true → (after_command b s j).counts ≡ set b.counts j.port (s.number + 1)
 counts_after b s j room = ap (λ (r : Bool). (if r then after_record b s j (answer_of b j) else b).counts) room
 
-pub still_counted : (k place next : ℕ) (old before log : List Link) (b : BankValue) (counts : List ℕ) (s : ShareValue) (j : JudgedValue) (e : EntryValue) → fits b s j ≡ true
+pub still_counted : (k place next : ℕ) (old before log : List HistoryEntry) (b : BankValue) (counts : List ℕ) (s : ShareValue) (j : JudgedValue) (e : EntryValue) → fits b s j ≡ true
     → ((port : ℕ) → port < length b.counts → numbers_of port (entries_of k old) ≡ range_with_len 0 (get_or b.counts port 0))
     → chain_of k before ≡ chain_of k old → counts ≡ set b.counts j.port (s.number + 1) → e.port ≡ j.port → e.number ≡ s.number
     → log ≡ before ++ link k place (Does (Leaves e)) next ∷ []
@@ -64,7 +64,7 @@ still_counted k place next old before log b counts s j e fit counted same new at
           numbers_of-same port (entries_of k before) e (at ∙ here) ∙ (ap (λ (l : List ℕ). l ++ e.number ∷ []) earlier ∙ (ap (λ (n : ℕ). range_with_len 0 s.number ++ n ∷ []) number ∙ (range_more 0 s.number s.number (omega arith) ∙ ap (λ (n : ℕ). range_with_len 0 n) (sym count))))
       | inr other ↦
           let count : get_or counts port 0 ≡ get_or b.counts port 0 = rw new (get_or-set_other b.counts j.port port (s.number + 1) 0 (λ e. other (sym e))) in
-          numbers_of-other port (entries_of k before) e (λ is. other (sym at ∙ is)) ∙ (ap (λ (l : List Link). numbers_of port (entries_in l)) same ∙ (counted port within ∙ ap (λ (n : ℕ). range_with_len 0 n) (sym count)))
+          numbers_of-other port (entries_of k before) e (λ is. other (sym at ∙ is)) ∙ (ap (λ (l : List HistoryEntry). numbers_of port (entries_in l)) same ∙ (counted port within ∙ ap (λ (n : ℕ). range_with_len 0 n) (sym count)))
     ]
 
 -- the share and the line after an entry
@@ -113,7 +113,7 @@ fresh_kept b c first size journal ports extent is at bytes memory entries =
     })
 
 -- after a deed of no command the entries are counted as before
-pub set_counted : (k : ℕ) (old before log : List Link) (l : Link) (counts : List ℕ)
+pub set_counted : (k : ℕ) (old before log : List HistoryEntry) (l : HistoryEntry) (counts : List ℕ)
     → ((port : ℕ) → port < length counts → numbers_of port (entries_of k old) ≡ range_with_len 0 (get_or counts port 0))
     → chain_of k before ≡ chain_of k old → l.chain ≡ k → with_entry l.deed [] ≡ [] → log ≡ before ++ l ∷ []
     → (port : ℕ) → port < length counts → numbers_of port (entries_of k log) ≡ range_with_len 0 (get_or counts port 0)

@@ -11,7 +11,7 @@ use Rattle.annals.specs.declared.deed.Act.{Act}
 use Rattle.annals.specs.declared.deed.Act.TheVariants.{Leaves, Sets, Rotates, Publishes}
 use Rattle.annals.specs.declared.deed.Deed.{Deed}
 use Rattle.annals.specs.declared.deed.Deed.TheVariants.{Opens, Does, Asks, Shows}
-use Rattle.annals.specs.declared.deed.Link.{Link}
+use Rattle.annals.specs.declared.deed.HistoryEntry.{HistoryEntry}
 use Rattle.annals.specs.Chains.{AreAskedBefore, Due, IsDue, asked_by, asked_in, at_bank, at_chain, chain_of, done_for, left_in, line_chain_of, link, owner_of, with_asked, with_done, with_left}
 use Rattle.annals.specs.Banks.{entries_in, entries_of, numbers_at, with_entry}
 use Rattle.lemmas.proofs.Prefixes.{prefix_trans, prefix_self, prefix_whole, prefix_length}
@@ -19,19 +19,19 @@ use Rattle.lemmas.proofs.Prefixes.{prefix_trans, prefix_self, prefix_whole, pref
 -- ---- chains
 
 -- what begins a history has a chain that begins the history's
-pub chain_prefix : (c : ℕ) (xs ys : List Link) → IsPrefix xs ys → IsPrefix (chain_of c xs) (chain_of c ys)
-chain_prefix c xs ys p = (chain_of c p.0, sym (filter-append (λ (l : Link). l.chain == c) xs p.0) ∙ ap (chain_of c) p.1)
+pub chain_prefix : (c : ℕ) (xs ys : List HistoryEntry) → IsPrefix xs ys → IsPrefix (chain_of c xs) (chain_of c ys)
+chain_prefix c xs ys p = (chain_of c p.0, sym (filter-append (λ (l : HistoryEntry). l.chain == c) xs p.0) ∙ ap (chain_of c) p.1)
 
-pub chain_snoc : (c : ℕ) (log : List Link) (e : Link) → chain_of c (log ++ e ∷ []) ≡ chain_of c log ++ cond (e.chain == c) (e ∷ []) []
-chain_snoc c log e = filter-append (λ (l : Link). l.chain == c) log (e ∷ [])
+pub chain_snoc : (c : ℕ) (log : List HistoryEntry) (e : HistoryEntry) → chain_of c (log ++ e ∷ []) ≡ chain_of c log ++ cond (e.chain == c) (e ∷ []) []
+chain_snoc c log e = filter-append (λ (l : HistoryEntry). l.chain == c) log (e ∷ [])
 
-pub own_snoc : (c : ℕ) (log : List Link) (e : Link) → e.chain ≡ c → chain_of c (log ++ e ∷ []) ≡ chain_of c log ++ e ∷ []
+pub own_snoc : (c : ℕ) (log : List HistoryEntry) (e : HistoryEntry) → e.chain ≡ c → chain_of c (log ++ e ∷ []) ≡ chain_of c log ++ e ∷ []
 own_snoc c log e is =
     let same : (e.chain == c) ≡ true = grind (arith, nat_tests, is) in
     chain_snoc c log e ∙ ap (λ (b : Bool). chain_of c log ++ cond b (e ∷ []) []) same
 
 -- what is whole stays so in each beginning that has it
-pub between_same : (c : ℕ) (own v log : List Link) → IsPrefix own v → IsPrefix v log → chain_of c own ≡ chain_of c log → chain_of c v ≡ chain_of c log
+pub between_same : (c : ℕ) (own v log : List HistoryEntry) → IsPrefix own v → IsPrefix v log → chain_of c own ≡ chain_of c log → chain_of c v ≡ chain_of c log
 between_same c own v log begins pre same =
     let low = prefix_length (chain_of c own) (chain_of c v) (chain_prefix c own v begins) in
     prefix_whole (chain_of c v) (chain_of c log) (chain_prefix c v log pre) (omega (arith, low, ap length same))
@@ -44,17 +44,17 @@ asked_joined (Does a) xs ys = refl
 asked_joined (Asks x) xs ys = refl
 asked_joined Shows xs ys = refl
 
-asked_append : (ls ms : List Link) → asked_in (ls ++ ms) ≡ asked_in ls ++ asked_in ms
+asked_append : (ls ms : List HistoryEntry) → asked_in (ls ++ ms) ≡ asked_in ls ++ asked_in ms
 asked_append [] ms = refl
 asked_append (l ∷ ls) ms = ap (with_asked l.deed) (asked_append ls ms) ∙ asked_joined l.deed (asked_in ls) (asked_in ms)
 
-pub asked_prefix : (owner : ℕ) (xs ys : List Link) → IsPrefix xs ys → IsPrefix (asked_by owner xs) (asked_by owner ys)
+pub asked_prefix : (owner : ℕ) (xs ys : List HistoryEntry) → IsPrefix xs ys → IsPrefix (asked_by owner xs) (asked_by owner ys)
 asked_prefix owner xs ys p =
     let c = chain_prefix (line_chain_of owner) xs ys p in
     (asked_in c.0, sym (asked_append (chain_of (line_chain_of owner) xs) c.0) ∙ ap asked_in c.1)
 
 -- a line that asks for one more
-pub asked_more : (owner place next : ℕ) (log : List Link) (due : Due) → asked_by owner (log ++ link (line_chain_of owner) place (Asks due) next ∷ []) ≡ asked_by owner log ++ due ∷ []
+pub asked_more : (owner place next : ℕ) (log : List HistoryEntry) (due : Due) → asked_by owner (log ++ link (line_chain_of owner) place (Asks due) next ∷ []) ≡ asked_by owner log ++ due ∷ []
 asked_more owner place next log due =
     ap asked_in (own_snoc (line_chain_of owner) log (link (line_chain_of owner) place (Asks due) next) refl)
     ∙ asked_append (chain_of (line_chain_of owner) log) (link (line_chain_of owner) place (Asks due) next ∷ [])
@@ -70,15 +70,15 @@ done_joined owner chain (Does a) xs ys = here (owner_of a == owner) where
 done_joined owner chain (Asks x) xs ys = refl
 done_joined owner chain Shows xs ys = refl
 
-pub done_append : (owner : ℕ) (ls ms : List Link) → done_for owner (ls ++ ms) ≡ done_for owner ls ++ done_for owner ms
+pub done_append : (owner : ℕ) (ls ms : List HistoryEntry) → done_for owner (ls ++ ms) ≡ done_for owner ls ++ done_for owner ms
 done_append owner [] ms = refl
 done_append owner (l ∷ ls) ms = ap (with_done owner l.chain l.deed) (done_append owner ls ms) ∙ done_joined owner l.chain l.deed (done_for owner ls) (done_for owner ms)
 
-pub done_prefix : (owner : ℕ) (xs ys : List Link) → IsPrefix xs ys → IsPrefix (done_for owner xs) (done_for owner ys)
+pub done_prefix : (owner : ℕ) (xs ys : List HistoryEntry) → IsPrefix xs ys → IsPrefix (done_for owner xs) (done_for owner ys)
 done_prefix owner xs ys p = (done_for owner p.0, sym (done_append owner xs p.0) ∙ ap (done_for owner) p.1)
 
 -- an act of the line's owner
-pub done_more : (owner chain place next : ℕ) (log : List Link) (a : Act) → owner_of a ≡ owner → done_for owner (log ++ link chain place (Does a) next ∷ []) ≡ done_for owner log ++ (chain, a) ∷ []
+pub done_more : (owner chain place next : ℕ) (log : List HistoryEntry) (a : Act) → owner_of a ≡ owner → done_for owner (log ++ link chain place (Does a) next ∷ []) ≡ done_for owner log ++ (chain, a) ∷ []
 done_more owner chain place next log a is =
     let same : (owner_of a == owner) ≡ true = grind (arith, nat_tests, is) in
     done_append owner log (link chain place (Does a) next ∷ []) ∙ ap (λ (b : Bool). done_for owner log ++ cond b ((chain, a) ∷ []) []) same
@@ -129,7 +129,7 @@ with_act owner (Asks x) acts = acts
 with_act owner Shows acts = acts
 
 -- the acts of that owner among those deeds
-acts_in : ℕ → List Link → List Act
+acts_in : ℕ → List HistoryEntry → List Act
 acts_in owner [] = []
 acts_in owner (l ∷ ls) = with_act owner l.deed (acts_in owner ls)
 
@@ -152,7 +152,7 @@ other_acts owner k chain (Asks x) ds not = refl
 other_acts owner k chain Shows ds not = refl
 
 -- what somebody did at a chain are the acts of that owner in it
-acts_at : (owner k : ℕ) (log : List Link) → at_chain k (done_for owner log) ≡ acts_in owner (chain_of k log)
+acts_at : (owner k : ℕ) (log : List HistoryEntry) → at_chain k (done_for owner log) ≡ acts_in owner (chain_of k log)
 unfolding acts_in
 acts_at owner k [] = refl
 acts_at owner k (l ∷ ls) = here (l.chain == k) refl (acts_at owner k ls) where
@@ -191,16 +191,16 @@ left_of owner (Does (Publishes x)) acts es same = here (owner_of (Publishes x) =
 left_of owner (Asks x) acts es same = same
 left_of owner Shows acts es same = same
 
-left_by : (owner : ℕ) (ls : List Link) → left_in (acts_in owner ls) ≡ by_port owner (entries_in ls)
+left_by : (owner : ℕ) (ls : List HistoryEntry) → left_in (acts_in owner ls) ≡ by_port owner (entries_in ls)
 unfolding acts_in
 left_by owner [] = refl
 left_by owner (l ∷ ls) = left_of owner l.deed (acts_in owner ls) (entries_in ls) (left_by owner ls)
 
 -- what a port left at a bank are its entries in the bank's chain
-pub done_at : (port k : ℕ) (log : List Link) → at_bank k (done_for port log) ≡ by_port port (entries_of k log)
+pub done_at : (port k : ℕ) (log : List HistoryEntry) → at_bank k (done_for port log) ≡ by_port port (entries_of k log)
 done_at port k log = ap left_in (acts_at port k log) ∙ left_by port (chain_of k log)
 
-pub done_numbers : (port k : ℕ) (log : List Link) → numbers_at k (done_for port log) ≡ numbers_of port (entries_of k log)
+pub done_numbers : (port k : ℕ) (log : List HistoryEntry) → numbers_at k (done_for port log) ≡ numbers_of port (entries_of k log)
 done_numbers port k log = ap (map (λ (e : EntryValue). e.number)) (done_at port k log)
 
 pub numbers_append : (k : ℕ) (xs ys : List Due) → numbers_at k (xs ++ ys) ≡ numbers_at k xs ++ numbers_at k ys
@@ -229,7 +229,7 @@ drop_front [] ys zs is = is
 drop_front (x ∷ xs) ys zs is = drop_front xs ys zs (cc is)
 
 -- if the chain is whole, nobody did what is due there
-pub none_more : (owner k : ℕ) (a : Act) (v log : List Link) → IsPrefix v log → chain_of k v ≡ chain_of k log → IsPrefix (done_for owner log) (asked_by owner log)
+pub none_more : (owner k : ℕ) (a : Act) (v log : List HistoryEntry) → IsPrefix v log → chain_of k v ≡ chain_of k log → IsPrefix (done_for owner log) (asked_by owner log)
     → asked_by owner v ≡ done_for owner v ++ (k, a) ∷ [] → done_for owner log ≡ done_for owner v
 none_more owner k a v log pre same asked due =
     let done = done_prefix owner v log pre in
@@ -247,24 +247,24 @@ none_more owner k a v log pre same asked due =
     append_assoc' xs ys zs = sym (append_assoc xs ys zs)
 
 -- a deed that did nothing
-abbrev pub LeavesNone : Link → Type 0
+abbrev pub LeavesNone : HistoryEntry → Type 0
 LeavesNone e = (owner : ℕ) → done_for owner (e ∷ []) ≡ []
 
-same_done : (owner : ℕ) (log : List Link) (e : Link) → done_for owner (e ∷ []) ≡ [] → done_for owner (log ++ e ∷ []) ≡ done_for owner log
+same_done : (owner : ℕ) (log : List HistoryEntry) (e : HistoryEntry) → done_for owner (e ∷ []) ≡ [] → done_for owner (log ++ e ∷ []) ≡ done_for owner log
 same_done owner log e none = done_append owner log (e ∷ []) ∙ (ap (λ (ds : List Due). done_for owner log ++ ds) none ∙ append-nil (done_for owner log))
 
-snoc_prefix : (log : List Link) (e : Link) → IsPrefix log (log ++ e ∷ [])
+snoc_prefix : (log : List HistoryEntry) (e : HistoryEntry) → IsPrefix log (log ++ e ∷ [])
 snoc_prefix log e = (e ∷ [], refl)
 
 -- what did nothing keeps the order
-pub none_asked : (log : List Link) (e : Link) → LeavesNone e → AreAskedBefore log → AreAskedBefore (log ++ e ∷ [])
+pub none_asked : (log : List HistoryEntry) (e : HistoryEntry) → LeavesNone e → AreAskedBefore log → AreAskedBefore (log ++ e ∷ [])
 none_asked log e none asked = λ owner.
     rw (same_done owner log e (none owner)) (prefix_trans (done_for owner log) (asked_by owner log) (asked_by owner (log ++ e ∷ [])) (asked owner) (asked_prefix owner log (log ++ e ∷ []) (snoc_prefix log e)))
 
-does_asked : (log v : List Link) (chain place next : ℕ) (a : Act) → IsPrefix v log → chain_of chain v ≡ chain_of chain log → IsDue chain (Does a) v → AreAskedBefore log
+does_asked : (log v : List HistoryEntry) (chain place next : ℕ) (a : Act) → IsPrefix v log → chain_of chain v ≡ chain_of chain log → IsDue chain (Does a) v → AreAskedBefore log
     → AreAskedBefore (log ++ link chain place (Does a) next ∷ [])
 does_asked log v chain place next a pre same due asked = λ owner. by owner (owner_of a == owner) refl where
-  e : Link
+  e : HistoryEntry
   e = link chain place (Does a) next
 
   by : (owner : ℕ) (b : Bool) → (owner_of a == owner) ≡ b → IsPrefix (done_for owner (log ++ e ∷ [])) (asked_by owner (log ++ e ∷ []))
@@ -279,7 +279,7 @@ does_asked log v chain place next a pre same due asked = λ owner. by owner (own
       rw (same_done owner log e none) (prefix_trans (done_for owner log) (asked_by owner log) (asked_by owner (log ++ e ∷ [])) (asked owner) (asked_prefix owner log (log ++ e ∷ []) (snoc_prefix log e)))
 
 -- a deed that is due keeps the order
-pub still_asked : (log v : List Link) (chain place next : ℕ) (deed : Deed) → IsPrefix v log → chain_of chain v ≡ chain_of chain log → IsDue chain deed v → AreAskedBefore log
+pub still_asked : (log v : List HistoryEntry) (chain place next : ℕ) (deed : Deed) → IsPrefix v log → chain_of chain v ≡ chain_of chain log → IsDue chain deed v → AreAskedBefore log
     → AreAskedBefore (log ++ link chain place deed next ∷ [])
 still_asked log v chain place next (Opens x) pre same due asked = none_asked log (link chain place (Opens x) next) (λ owner. refl) asked
 still_asked log v chain place next (Does a) pre same due asked = does_asked log v chain place next a pre same due asked
@@ -293,7 +293,7 @@ both_begin : {A : Type 0} (xs ys : List A) → IsPrefix xs ys → IsPrefix ys xs
 both_begin xs ys p q = prefix_whole xs ys p (prefix_length ys xs q)
 
 -- if the line has asked for one more, that one is due
-pub asks_next : (owner place next : ℕ) (own before left reached : List Link) (due : Due) → AreAskedBefore before → chain_of (line_chain_of owner) before ≡ chain_of (line_chain_of owner) own
+pub asks_next : (owner place next : ℕ) (own before left reached : List HistoryEntry) (due : Due) → AreAskedBefore before → chain_of (line_chain_of owner) before ≡ chain_of (line_chain_of owner) own
     → IsPrefix (asked_by owner own) (done_for owner left) → IsPrefix left before → reached ≡ before ++ link (line_chain_of owner) place (Asks due) next ∷ []
     → asked_by owner reached ≡ done_for owner reached ++ due ∷ []
 asks_next owner place next own before left reached due asked same all pre is =
@@ -306,7 +306,7 @@ asks_next owner place next own before left reached due asked same all pre is =
     ap (asked_by owner) is ∙ (asked_more owner place next before due ∙ ap (λ (ds : List Due). ds ++ due ∷ []) (sym even ∙ sym stays))
 
 -- and after it was done, all that the line asked for was done
-pub all_left : (owner chain place next : ℕ) (reached before after : List Link) (a : Act) → owner_of a ≡ owner → AreAskedBefore before → IsPrefix reached before
+pub all_left : (owner chain place next : ℕ) (reached before after : List HistoryEntry) (a : Act) → owner_of a ≡ owner → AreAskedBefore before → IsPrefix reached before
     → chain_of chain reached ≡ chain_of chain before → asked_by owner reached ≡ done_for owner reached ++ (chain, a) ∷ []
     → after ≡ before ++ link chain place (Does a) next ∷ [] → IsPrefix (asked_by owner reached) (done_for owner after)
 all_left owner chain place next reached before after a own asked pre same due is =

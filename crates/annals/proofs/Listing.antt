@@ -8,7 +8,7 @@ use mathlib.Core.List.{IsPrefix}
 use Rattle.node_programs.specs.declared.publishes.Publish.{Publish}
 use Rattle.annals.specs.declared.deed.Deed.{Deed}
 use Rattle.annals.specs.declared.deed.Deed.TheVariants.{Opens, Does, Asks, Shows}
-use Rattle.annals.specs.declared.deed.Link.{Link}
+use Rattle.annals.specs.declared.deed.HistoryEntry.{HistoryEntry}
 use Rattle.annals.specs.Chains.{IsDue}
 use Rattle.annals.specs.Publishes.{publishes_of}
 use Rattle.annals.specs.Shown.{AreListed, IsTakenAtMoment, shown_in, shows}
@@ -16,16 +16,16 @@ use Rattle.lemmas.proofs.Prefixes.{prefix_either, prefix_length, prefix_self, pr
 use Rattle.annals.proofs.Publishings.{publishes_begin}
 
 -- a deed that is due at a chain shows nothing
-pub due_quiet : (chain : ℕ) (d : Deed) (log : List Link) → IsDue chain d log → shows d ≡ 0
+pub due_quiet : (chain : ℕ) (d : Deed) (log : List HistoryEntry) → IsDue chain d log → shows d ≡ 0
 due_quiet chain (Opens x) log due = refl
 due_quiet chain (Does a) log due = refl
 due_quiet chain (Asks x) log due = refl
 due_quiet chain Shows log due = absurd due
 
-pub shown_append : (xs ys : List Link) → shown_in (xs ++ ys) ≡ shown_in xs + shown_in ys
-shown_append xs ys = sum_by-append (λ (l : Link). shows l.deed) xs ys
+pub shown_append : (xs ys : List HistoryEntry) → shown_in (xs ++ ys) ≡ shown_in xs + shown_in ys
+shown_append xs ys = sum_by-append (λ (l : HistoryEntry). shows l.deed) xs ys
 
-pub shown_quiet : (log : List Link) (e : Link) → shows e.deed ≡ 0 → shown_in (log ++ e ∷ []) ≡ shown_in log
+pub shown_quiet : (log : List HistoryEntry) (e : HistoryEntry) → shows e.deed ≡ 0 → shown_in (log ++ e ∷ []) ≡ shown_in log
 shown_quiet log e quiet = omega (arith, shown_append log (e ∷ []), quiet)
 
 pub none_listed : AreListed []
@@ -33,31 +33,31 @@ none_listed [] p = omega arith
 none_listed (l ∷ ls) p = absurd (cc (p.1))
 
 -- one entry more, at whose end it is so too
-pub listed_snoc : (log : List Link) (e : Link) → shown_in (log ++ e ∷ []) ≤ length (publishes_of (log ++ e ∷ [])) → AreListed log → AreListed (log ++ e ∷ [])
+pub listed_snoc : (log : List HistoryEntry) (e : HistoryEntry) → shown_in (log ++ e ∷ []) ≤ length (publishes_of (log ++ e ∷ [])) → AreListed log → AreListed (log ++ e ∷ [])
 listed_snoc log e end listed before p =
     ⊎_elim (λ (q : IsPrefix before log). listed before q) (λ (q : IsPrefix log before). longer q.0 q.1) (prefix_either before log (log ++ e ∷ []) p (e ∷ [], refl))
   where
-    G : List Link → Type 0
+    G : List HistoryEntry → Type 0
     G l = shown_in l ≤ length (publishes_of l)
 
-    longer : (rest : List Link) → log ++ rest ≡ before → G before
+    longer : (rest : List HistoryEntry) → log ++ rest ≡ before → G before
     longer [] is = subst G (sym (append-nil log) ∙ is) (listed log (prefix_self log))
     longer (x ∷ rest) is =
         let size : length (log ++ e ∷ []) ≤ length before = omega (arith, ap length is, length-append log (x ∷ rest), length-append log (e ∷ [])) in
         subst G (sym (prefix_whole before (log ++ e ∷ []) p size)) end
 
 -- an entry that shows nothing
-pub listed_quiet : (log : List Link) (e : Link) → shows e.deed ≡ 0 → AreListed log → AreListed (log ++ e ∷ [])
+pub listed_quiet : (log : List HistoryEntry) (e : HistoryEntry) → shows e.deed ≡ 0 → AreListed log → AreListed (log ++ e ∷ [])
 listed_quiet log e quiet listed =
     let grown = prefix_length (publishes_of log) (publishes_of (log ++ e ∷ [])) (publishes_begin log (log ++ e ∷ []) (e ∷ [], refl)) in
     listed_snoc log e (omega (arith, shown_quiet log e quiet, listed log (prefix_self log), grown)) listed
 
 -- what is so of a history is so of each beginning
-pub listed_begins : (xs ys : List Link) → IsPrefix xs ys → AreListed ys → AreListed xs
+pub listed_begins : (xs ys : List HistoryEntry) → IsPrefix xs ys → AreListed ys → AreListed xs
 listed_begins xs ys p listed = λ before q. listed before (prefix_trans before xs ys q p)
 
 -- a deed shows one program at most
-one_at_most : (l : Link) → shown_in (l ∷ []) ≤ 1
+one_at_most : (l : HistoryEntry) → shown_in (l ∷ []) ≤ 1
 one_at_most l = by_deed l.deed where
   by_deed : (d : Deed) → 0 + shows d ≤ 1
   by_deed (Opens x) = omega arith
@@ -66,7 +66,7 @@ one_at_most l = by_deed l.deed where
   by_deed Shows = omega arith
 
 -- the more was seen, the more programs readers saw
-pub shown_grows : (xs ys : List Link) → IsPrefix xs ys → shown_in xs ≤ shown_in ys
+pub shown_grows : (xs ys : List HistoryEntry) → IsPrefix xs ys → shown_in xs ≤ shown_in ys
 shown_grows xs ys p = omega (arith, ap shown_in p.1, shown_append xs p.0)
 
 -- after a raise readers see the program if they saw the one before it
@@ -80,14 +80,14 @@ high_enough found count before after some grown m low = by_test (found == count 
         omega (arith, m, grown, low, not, some)
 
 -- a moment at which that many programs were shown
-pub record IsMoment (known reached : List Link) (count : ℕ) : Type 0 where
-  pub at : List Link
+pub record IsMoment (known reached : List HistoryEntry) (count : ℕ) : Type 0 where
+  pub at : List HistoryEntry
   pub after : IsPrefix known at
   pub before : IsPrefix at reached
   pub many : shown_in at ≡ count
 
 -- a number between what a beginning shows and what the whole shows is shown at a moment in between
-between : (xs more : List Link) (k : ℕ) → shown_in xs ≤ k → k ≤ shown_in (xs ++ more) → IsMoment xs (xs ++ more) k
+between : (xs more : List HistoryEntry) (k : ℕ) → shown_in xs ≤ k → k ≤ shown_in (xs ++ more) → IsMoment xs (xs ++ more) k
 between xs [] k low high = record {
   at = xs;
   after = prefix_self xs;
@@ -103,24 +103,24 @@ between xs (d ∷ more) k low high = by_test (λ one far. between (xs ++ d ∷ [
         let not : shown_in xs ≢ k = λ same. absurd (grind (arith, nat_tests, is, same)) in
         let one : shown_in (xs ++ d ∷ []) ≤ k = omega (arith, shown_append xs (d ∷ []), one_at_most d, not, low) in
         let parts : (xs ++ d ∷ []) ++ more ≡ xs ++ d ∷ more = append_assoc xs (d ∷ []) more in
-        let rest : IsMoment (xs ++ d ∷ []) ((xs ++ d ∷ []) ++ more) k = further one (subst (λ (l : List Link). k ≤ shown_in l) (sym parts) high) in
+        let rest : IsMoment (xs ++ d ∷ []) ((xs ++ d ∷ []) ++ more) k = further one (subst (λ (l : List HistoryEntry). k ≤ shown_in l) (sym parts) high) in
         record {
           at = rest.at;
           after = prefix_trans xs (xs ++ d ∷ []) rest.at (d ∷ [], refl) rest.after;
-          before = subst (λ (l : List Link). IsPrefix rest.at l) parts rest.before;
+          before = subst (λ (l : List HistoryEntry). IsPrefix rest.at l) parts rest.before;
           many = rest.many;
         }
 
-pub between_seen : (xs ys : List Link) (k : ℕ) → IsPrefix xs ys → shown_in xs ≤ k → k ≤ shown_in ys → IsMoment xs ys k
+pub between_seen : (xs ys : List HistoryEntry) (k : ℕ) → IsPrefix xs ys → shown_in xs ≤ k → k ≤ shown_in ys → IsMoment xs ys k
 between_seen xs ys k p low high =
-    subst (λ (l : List Link). IsMoment xs l k) p.1 (between xs p.0 k low (subst (λ (l : List Link). k ≤ shown_in l) (sym p.1) high))
+    subst (λ (l : List HistoryEntry). IsMoment xs l k) p.1 (between xs p.0 k low (subst (λ (l : List HistoryEntry). k ≤ shown_in l) (sym p.1) high))
 
 take_front : {A : Type 0} (xs ys : List A) → take (length xs) (xs ++ ys) ≡ xs
 take_front [] ys = refl
 take_front (x ∷ xs) ys = ap (λ zs. x ∷ zs) (take_front xs ys)
 
 -- a table of that many programs is what readers saw at that moment
-pub taken_at : (known reached table : List Link) (count : ℕ) → IsMoment known reached count → AreListed reached → IsPrefix table reached → length (publishes_of table) ≡ count
+pub taken_at : (known reached table : List HistoryEntry) (count : ℕ) → IsMoment known reached count → AreListed reached → IsPrefix table reached → length (publishes_of table) ≡ count
     → IsTakenAtMoment known reached (publishes_of table)
 taken_at known reached table count moment listed begins many =
     let ours = publishes_of table in

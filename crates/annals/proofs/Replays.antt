@@ -11,12 +11,12 @@ use Rattle.rmap.specs.declared.places.Place.TheVariants.{Bank, Staging, LoadResu
 use Rattle.bank.specs.Records.{EntryValue, ShareValue, JudgedValue, BankValue, memory_of, answer_of, has_room, after_entry, after_command, after_record, entry_of, number_left, is_place_of}
 use Rattle.annals.specs.declared.deed.Act.TheVariants.{Leaves}
 use Rattle.annals.specs.declared.deed.Deed.TheVariants.{Does}
-use Rattle.annals.specs.declared.deed.Link.{Link}
+use Rattle.annals.specs.declared.deed.HistoryEntry.{HistoryEntry}
 use Rattle.annals.specs.Chains.{chain_of, link}
 use Rattle.annals.specs.Banks.{zeros, after_deed, after_link, memory_after, answer_after}
 use Rattle.annals.proofs.Dues.{own_snoc}
 
-fold_snoc : (m : Memory) (xs : List Link) (x : Link) → fold after_link m (xs ++ x ∷ []) ≡ after_link (fold after_link m xs) x
+fold_snoc : (m : Memory) (xs : List HistoryEntry) (x : HistoryEntry) → fold after_link m (xs ++ x ∷ []) ≡ after_link (fold after_link m xs) x
 fold_snoc m [] x = refl
 fold_snoc m (y ∷ ys) x = fold_snoc (after_link m y) ys x
 
@@ -45,31 +45,31 @@ pub entries_after : (b : BankValue) (s : ShareValue) (j : JudgedValue) → has_r
     → (after_command b s j).journal.entries ≡ b.journal.entries ++ entry_of s j (answer_of b j).status ∷ []
 entries_after b s j room = ap (λ (r : Bool). (if r then after_record b s j (answer_of b j) else b).journal.entries) room
 
-pub same_memory : (k : ℕ) (old before : List Link) (b : BankValue) → memory_of b ≡ memory_after k old → chain_of k before ≡ chain_of k old → memory_after k before ≡ memory_of b
-same_memory k old before b kept same = ap (λ (l : List Link). fold after_link (zeros (0, 0)) l) same ∙ sym kept
+pub same_memory : (k : ℕ) (old before : List HistoryEntry) (b : BankValue) → memory_of b ≡ memory_after k old → chain_of k before ≡ chain_of k old → memory_after k before ≡ memory_of b
+same_memory k old before b kept same = ap (λ (l : List HistoryEntry). fold after_link (zeros (0, 0)) l) same ∙ sym kept
 
 -- the answer of a bank is the answer after the history
-pub answers : (k : ℕ) (before : List Link) (b : BankValue) (j : JudgedValue) → has_room b j.port ≡ true → memory_after k before ≡ memory_of b → answer_of b j ≡ answer_after k before j
+pub answers : (k : ℕ) (before : List HistoryEntry) (b : BankValue) (j : JudgedValue) → has_room b j.port ≡ true → memory_after k before ≡ memory_of b → answer_of b j ≡ answer_after k before j
 answers k before b j room same =
     ap (λ (r : Bool). answer (memory_of b) r (command_of j.packet) j.verdict) room
     ∙ ap (λ (m : Memory). answer m true (command_of j.packet) j.verdict) (sym same)
 
-pub replayed : (k place next : ℕ) (before log : List Link) (b new : BankValue) (s : ShareValue) (j : JudgedValue) (entry : EntryValue)
+pub replayed : (k place next : ℕ) (before log : List HistoryEntry) (b new : BankValue) (s : ShareValue) (j : JudgedValue) (entry : EntryValue)
     → memory_after k before ≡ memory_of b → memory_of new ≡ (answer_of b j).memory → entry ≡ entry_of s j (answer_of b j).status
     → log ≡ before ++ link k place (Does (Leaves entry)) next ∷ [] → memory_of new ≡ memory_after k log
 replayed k place next before log b new s j entry same memory is more =
     let snoc : memory_after k (before ++ link k place (Does (Leaves entry)) next ∷ []) ≡ after_entry (memory_after k before) entry =
-    ap (λ (l : List Link). fold after_link (zeros (0, 0)) l) (own_snoc k before (link k place (Does (Leaves entry)) next) refl)
+    ap (λ (l : List HistoryEntry). fold after_link (zeros (0, 0)) l) (own_snoc k before (link k place (Does (Leaves entry)) next) refl)
     ∙ fold_snoc (zeros (0, 0)) (chain_of k before) (link k place (Does (Leaves entry)) next) in
     let done : after_entry (memory_of b) (entry_of s j (answer_of b j).status) ≡ (answer_of b j).memory = refl in
     memory ∙ sym (ap (memory_after k) more ∙ (snoc ∙ (ap (λ (m : Memory). after_entry m entry) same ∙ (ap (λ (e : EntryValue). after_entry (memory_of b) e) is ∙ done))))
 
 -- the replay of a chain with one more deed
-pub replayed_more : (k : ℕ) (before log : List Link) (l : Link) (m : Memory) → l.chain ≡ k → memory_after k before ≡ m → log ≡ before ++ l ∷ []
+pub replayed_more : (k : ℕ) (before log : List HistoryEntry) (l : HistoryEntry) (m : Memory) → l.chain ≡ k → memory_after k before ≡ m → log ≡ before ++ l ∷ []
     → memory_after k log ≡ after_deed m l.deed
 replayed_more k before log l m own same more =
     ap (memory_after k) more
-    ∙ (ap (λ (ls : List Link). fold after_link (zeros (0, 0)) ls) (own_snoc k before l own)
+    ∙ (ap (λ (ls : List HistoryEntry). fold after_link (zeros (0, 0)) ls) (own_snoc k before l own)
     ∙ (fold_snoc (zeros (0, 0)) (chain_of k before) l ∙ ap (λ (x : Memory). after_deed x l.deed) same))
 
 -- a place that is the bank of a number

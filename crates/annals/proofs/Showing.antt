@@ -5,7 +5,7 @@ use Rattle.std.proofs.lemmas.Bool.Decides.{nat_tests}
 use mathlib.Core.List.{IsPrefix}
 use prog.Atomic.{either}
 use Rattle.logbook.specs.Pages.{Cell, cell, keeps, no_nib, step, Moves, Goes}
-use Rattle.annals.specs.declared.deed.Link.{Link}
+use Rattle.annals.specs.declared.deed.HistoryEntry.{HistoryEntry}
 use Rattle.annals.specs.Chains.{chain_of}
 use Rattle.annals.specs.Publishes.{publishes_of}
 use Rattle.annals.specs.Rule.{AreChained, Counts, Raises, shown_word, showing}
@@ -16,7 +16,7 @@ use Rattle.annals.proofs.Listing.{listed_snoc, shown_append}
 use Rattle.annals.proofs.Publishings.{publishes_begin}
 use Rattle.annals.proofs.Turns.{moved, other_snoc, same_cell, set_home, set_length, shown, still_home}
 
-pub counts_moves : (v : List Link) (e : Link)
+pub counts_moves : (v : List HistoryEntry) (e : HistoryEntry)
     → Moves AreChained shown moved shown_word (v, (no_nib, None)) (λ n. n) (Counts (step shown_word 0 0 e) (v, (no_nib, None)))
 counts_moves v e cs log kept pre away =
     let all : log ++ [] ≡ log = append-nil log in (
@@ -34,7 +34,7 @@ counts_moves v e cs log kept pre away =
     )
 
 -- one program more is shown
-raise_kept : (cs : List Cell) (log : List Link) (n : ℕ) → n ≡ shown_in log + 1 → n ≤ length (publishes_of log) → AreChained cs log
+raise_kept : (cs : List Cell) (log : List HistoryEntry) (n : ℕ) → n ≡ shown_in log + 1 → n ≤ length (publishes_of log) → AreChained cs log
     → AreChained (slice_set cs shown_word (n, true)) (log ++ showing ∷ [])
 raise_kept cs log n next low kept =
     let ds = slice_set cs shown_word (n, true) in
@@ -54,7 +54,7 @@ raise_kept cs log n next low kept =
     apart : (c : ℕ) → c < 42 → shown_word ≢ c
     apart c few same = absurd (omega (arith, few, same))
 
-raise_goes : (cs : List Cell) (log v : List Link) (old new : ℕ) → new ≡ old + 1 → new ≤ length (publishes_of v) → IsPrefix v log → AreChained cs log
+raise_goes : (cs : List Cell) (log v : List HistoryEntry) (old new : ℕ) → new ≡ old + 1 → new ≤ length (publishes_of v) → IsPrefix v log → AreChained cs log
     → (b : Bool) → ((cell cs shown_word).0 == old) ≡ b
     → Goes AreChained shown moved shown_word (v, (no_nib, None)) (λ n. either (n == old) new n) (Raises (step shown_word old new showing) (v, (no_nib, None))) cs log
 raise_goes cs log v old new next low pre kept true is =
@@ -81,7 +81,7 @@ raise_goes cs log v old new next low pre kept false is =
       rw is (ap shown_in all ∙ sym kept.shown),
     )
 
-pub raise_moves : (v : List Link) (old new : ℕ) → new ≡ old + 1 → new ≤ length (publishes_of v)
+pub raise_moves : (v : List HistoryEntry) (old new : ℕ) → new ≡ old + 1 → new ≤ length (publishes_of v)
     → Moves AreChained shown moved shown_word (v, (no_nib, None)) (λ n. either (n == old) new n) (Raises (step shown_word old new showing) (v, (no_nib, None)))
 raise_moves v old new next low cs log kept pre away =
     (omega (arith, kept.row), kept.home, raise_goes cs log v old new next low pre kept ((cell cs shown_word).0 == old) refl)

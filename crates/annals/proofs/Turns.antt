@@ -6,7 +6,7 @@ use mathlib.Core.List.{IsPrefix}
 use lib.ListN.{replicate}
 use prog.Atomic.{either}
 use Rattle.logbook.specs.Pages.{Book, Named, Cell, cell, keeps, gives, adds, Nib, no_nib, may_write, step, Moves, Goes}
-use Rattle.annals.specs.declared.deed.Link.{Link}
+use Rattle.annals.specs.declared.deed.HistoryEntry.{HistoryEntry}
 use Rattle.annals.specs.Chains.{asked_in, chain_of, next_of, with_asked, IsHome, AreHome, AreAskedBefore, IsDue, Draws, Begins, Adds, Looks, IsEntryAdded, IsFirstOfChain, chain_word_of}
 use Rattle.annals.specs.Rule.{AreChained, shown_word}
 use Rattle.annals.specs.Shown.{shows}
@@ -16,10 +16,10 @@ use Rattle.lemmas.proofs.Prefixes.{prefix_trans, prefix_length, prefix_whole}
 use Rattle.annals.proofs.Dues.{LeavesNone, between_same, chain_prefix, chain_snoc, none_asked, own_snoc, still_asked}
 use Rattle.annals.proofs.Listing.{due_quiet, listed_quiet, none_listed, shown_quiet}
 
-abbrev pub shown : List Link → List Link
+abbrev pub shown : List HistoryEntry → List HistoryEntry
 shown log = []
 
-abbrev pub moved : List Link → List Link → ℕ → Type 0
+abbrev pub moved : List HistoryEntry → List HistoryEntry → ℕ → Type 0
 moved xs ys n = Unit {0}
 
 -- ---- cells
@@ -56,33 +56,33 @@ same_cell cs k n home is =
 
 -- ---- chains
 
-pub still_home : (cs ds : List Cell) (log : List Link) → ((j : ℕ) → IsHome cs j → IsHome ds j) → AreHome cs log → AreHome ds log
+pub still_home : (cs ds : List Cell) (log : List HistoryEntry) → ((j : ℕ) → IsHome cs j → IsHome ds j) → AreHome cs log → AreHome ds log
 still_home cs ds [] stays are = tt
 still_home cs ds (l ∷ []) stays are = tt
 still_home cs ds (l ∷ m ∷ ls) stays are = (stays l.next are.0, still_home cs ds (m ∷ ls) stays are.1)
 
-nothing_after : (cs : List Cell) (v more : List Link) → 0 < length v → AreHome cs (v ++ more) → (cell cs (next_of v)).1 ≡ false → more ≡ []
+nothing_after : (cs : List Cell) (v more : List HistoryEntry) → 0 < length v → AreHome cs (v ++ more) → (cell cs (next_of v)).1 ≡ false → more ≡ []
 nothing_after cs [] more some are away = absurd (omega (arith, some))
 nothing_after cs (l ∷ []) [] some are away = refl
 nothing_after cs (l ∷ []) (m ∷ ms) some are away = absurd (cc (are.0, away))
 nothing_after cs (l ∷ k ∷ ls) more some are away = nothing_after cs (k ∷ ls) more (omega arith) are.1 away
 
-pub whole : (cs : List Cell) (v log : List Link) → 0 < length v → IsPrefix v log → AreHome cs log → (cell cs (next_of v)).1 ≡ false → v ≡ log
+pub whole : (cs : List Cell) (v log : List HistoryEntry) → 0 < length v → IsPrefix v log → AreHome cs log → (cell cs (next_of v)).1 ≡ false → v ≡ log
 whole cs v log some pre are away =
-    let none = nothing_after cs v pre.0 some (subst (λ (l : List Link). AreHome cs l) (sym pre.1) are) away in
-    sym (append-nil v) ∙ (ap (λ (m : List Link). v ++ m) (sym none) ∙ pre.1)
+    let none = nothing_after cs v pre.0 some (subst (λ (l : List HistoryEntry). AreHome cs l) (sym pre.1) are) away in
+    sym (append-nil v) ∙ (ap (λ (m : List HistoryEntry). v ++ m) (sym none) ∙ pre.1)
 
-home_snoc : (cs : List Cell) (log : List Link) (e : Link) → AreHome cs log → (0 < length log → IsHome cs (next_of log)) → AreHome cs (log ++ e ∷ [])
+home_snoc : (cs : List Cell) (log : List HistoryEntry) (e : HistoryEntry) → AreHome cs log → (0 < length log → IsHome cs (next_of log)) → AreHome cs (log ++ e ∷ [])
 home_snoc cs [] e are last = tt
 home_snoc cs (l ∷ []) e are last = (last (omega arith), tt)
 home_snoc cs (l ∷ m ∷ ls) e are last = (are.0, home_snoc cs (m ∷ ls) e are.1 (λ some. last (omega arith)))
 
-pub next_snoc : (log : List Link) (e : Link) → next_of (log ++ e ∷ []) ≡ e.next
+pub next_snoc : (log : List HistoryEntry) (e : HistoryEntry) → next_of (log ++ e ∷ []) ≡ e.next
 next_snoc [] e = refl
 next_snoc (l ∷ []) e = refl
 next_snoc (l ∷ m ∷ ls) e = next_snoc (m ∷ ls) e
 
-pub other_snoc : (c : ℕ) (log : List Link) (e : Link) → e.chain ≢ c → chain_of c (log ++ e ∷ []) ≡ chain_of c log
+pub other_snoc : (c : ℕ) (log : List HistoryEntry) (e : HistoryEntry) → e.chain ≢ c → chain_of c (log ++ e ∷ []) ≡ chain_of c log
 other_snoc c log e not =
     let other : (e.chain == c) ≡ false = grind (arith, nat_tests, not) in
     chain_snoc c log e ∙ (ap (λ (b : Bool). chain_of c log ++ cond b (e ∷ []) []) other ∙ append-nil (chain_of c log))
@@ -97,10 +97,10 @@ stays old n = same (n == old) refl where
   same false is = refl
 
 -- the cells stay if the word of a chain is exchanged by itself
-unchanged : (cs : List Cell) (log : List Link) (c : ℕ) → c < 42 → AreChained cs log → slice_set cs c (either ((cell cs c).0 == 1) 1 (cell cs c).0, true) ≡ cs
+unchanged : (cs : List Cell) (log : List HistoryEntry) (c : ℕ) → c < 42 → AreChained cs log → slice_set cs c (either ((cell cs c).0 == 1) 1 (cell cs c).0, true) ≡ cs
 unchanged cs log c few kept = same_cell cs c (either ((cell cs c).0 == 1) 1 (cell cs c).0) (kept.homes c few) (stays 1 (cell cs c).0)
 
-draws_kept : (cs : List Cell) (log : List Link) → AreChained cs log → AreChained (cs ++ (0, false) ∷ []) (log ++ [])
+draws_kept : (cs : List Cell) (log : List HistoryEntry) → AreChained cs log → AreChained (cs ++ (0, false) ∷ []) (log ++ [])
 draws_kept cs log kept =
     let all : log ++ [] ≡ log = append-nil log in
     rw all (record {
@@ -114,7 +114,7 @@ draws_kept cs log kept =
       listed = kept.listed;
     })
 
-pub draws_moves : (c : ℕ) (v : List Link) (e : Link) → c < 42
+pub draws_moves : (c : ℕ) (v : List HistoryEntry) (e : HistoryEntry) → c < 42
     → Moves AreChained shown moved c (v, (no_nib, None)) (λ n. either (n == 1) 1 n) (Draws (step c 1 1 e) (v, (no_nib, None)))
 draws_moves c v e few cs log kept pre away = (
   omega (arith, few, kept.row),
@@ -132,7 +132,7 @@ draws_moves c v e few cs log kept pre away = (
 
 -- after a step that gives its pen's cell home, the entry that was added follows the one of its chain that names the
 -- cell
-adds_kept : (cs : List Cell) (log : List Link) (e : Link) (key value : ℕ) → key ≡ next_of (chain_of e.chain log) → key < length cs → (cell cs key).1 ≡ false → 0 < length (chain_of e.chain log) → AreAskedBefore (log ++ e ∷ []) → shows e.deed ≡ 0 → AreChained cs log
+adds_kept : (cs : List Cell) (log : List HistoryEntry) (e : HistoryEntry) (key value : ℕ) → key ≡ next_of (chain_of e.chain log) → key < length cs → (cell cs key).1 ≡ false → 0 < length (chain_of e.chain log) → AreAskedBefore (log ++ e ∷ []) → shows e.deed ≡ 0 → AreChained cs log
     → AreChained (slice_set cs key (value, true)) (log ++ e ∷ [])
 adds_kept cs log e key value names few away some asked quiet kept =
     let ds = slice_set cs key (value, true) in
@@ -179,7 +179,7 @@ adds_kept cs log e key value names few away some asked quiet kept =
         rw (other_snoc c log e not) (still c row)
 
 -- whatever the book is, the exchange adds the entry to the chain of whoever has the pen
-pub adds_moves : (c : ℕ) (own v : List Link) (e : Link) (p : Nib) → c < 42 → IsPrefix own v → 0 < length (chain_of c own) → p.right ≡ may_write → p.key ≡ next_of (chain_of c own)
+pub adds_moves : (c : ℕ) (own v : List HistoryEntry) (e : HistoryEntry) (p : Nib) → c < 42 → IsPrefix own v → 0 < length (chain_of c own) → p.right ≡ may_write → p.key ≡ next_of (chain_of c own)
     → e.chain ≡ c → e.place ≡ length (chain_of c own) → IsDue e.chain e.deed v
     → Moves AreChained shown moved c (v, (p, None)) (λ n. either (n == 1) 1 n) (Adds (step c 1 1 e) (v, (p, None)))
 adds_moves c own v e p few begins some right key chain place due cs log kept pre away =
@@ -196,14 +196,14 @@ adds_moves c own v e p few begins some right key chain place due cs log kept pre
         e ∷ [],
         None,
         right,
-        rw (unchanged cs log c few kept) (adds_kept cs log e p.key p.value (key ∙ ap next_of (sym ours)) off.0 off.1 (subst (λ (l : List Link). 0 < length l) (sym ours) some) asked (due_quiet e.chain e.deed v due) kept),
+        rw (unchanged cs log c few kept) (adds_kept cs log e p.key p.value (key ∙ ap next_of (sym ours)) off.0 off.1 (subst (λ (l : List HistoryEntry). 0 < length l) (sym ours) some) asked (due_quiet e.chain e.deed v due) kept),
         inl (refl, refl),
         record { before = log; log = refl; seen = pre; place = ap length ours ∙ sym place; asked = kept.asked },
       ),
     )
 
 -- the first entry of a chain
-begins_kept : (cs : List Cell) (log : List Link) (e : Link) → e.chain < 42 → chain_of e.chain log ≡ [] → LeavesNone e → shows e.deed ≡ 0 → AreChained cs log
+begins_kept : (cs : List Cell) (log : List HistoryEntry) (e : HistoryEntry) → e.chain < 42 → chain_of e.chain log ≡ [] → LeavesNone e → shows e.deed ≡ 0 → AreChained cs log
     → AreChained (slice_set cs e.chain (1, true)) (log ++ e ∷ [])
 begins_kept cs log e few none leaves quiet kept = record {
   row = omega (arith, kept.row, set_length cs e.chain (1, true));
@@ -245,7 +245,7 @@ begins_kept cs log e few none leaves quiet kept = record {
         let not : e.chain ≢ c = λ same. absurd (grind (arith, nat_tests, here, same)) in
         rw (other_snoc c log e not) (still c row)
 
-begins_goes : (cs : List Cell) (log v : List Link) (e : Link) → e.chain < 42 → e.place ≡ length (chain_of e.chain v) → LeavesNone e → shows e.deed ≡ 0 → IsPrefix v log → AreChained cs log → (b : Bool) → ((cell cs e.chain).0 == 0) ≡ b
+begins_goes : (cs : List Cell) (log v : List HistoryEntry) (e : HistoryEntry) → e.chain < 42 → e.place ≡ length (chain_of e.chain v) → LeavesNone e → shows e.deed ≡ 0 → IsPrefix v log → AreChained cs log → (b : Bool) → ((cell cs e.chain).0 == 0) ≡ b
     → Goes AreChained shown moved e.chain (v, (no_nib, None)) (λ n. either (n == 0) 1 n) (Begins (step e.chain 0 1 e) (v, (no_nib, None))) cs log
 begins_goes cs log v e few place leaves quiet pre kept true is =
     let here : (cell cs e.chain).0 ≡ 0 = grind (arith, nat_tests, is) in
@@ -269,7 +269,7 @@ begins_goes cs log v e few place leaves quiet pre kept false is = (
 )
 
 -- whatever the book is, the exchange adds the first entry of the chain, or finds that there is one
-pub begins_moves : (c : ℕ) (v : List Link) (e : Link) → c < 42 → e.chain ≡ c → e.place ≡ length (chain_of c v) → LeavesNone e → shows e.deed ≡ 0
+pub begins_moves : (c : ℕ) (v : List HistoryEntry) (e : HistoryEntry) → c < 42 → e.chain ≡ c → e.place ≡ length (chain_of c v) → LeavesNone e → shows e.deed ≡ 0
     → Moves AreChained shown moved c (v, (no_nib, None)) (λ n. either (n == 0) 1 n) (Begins (step c 0 1 e) (v, (no_nib, None)))
 begins_moves c v e few chain place leaves quiet =
     subst (λ (k : ℕ). Moves AreChained shown moved k (v, (no_nib, None)) (λ n. either (n == 0) 1 n) (Begins (step k 0 1 e) (v, (no_nib, None)))) chain
@@ -292,40 +292,40 @@ woven_at_first = record {
 
 -- ---- what an added entry tells
 
-pub added_same : (c : ℕ) (own v w : List Link) (e : Link) → e.chain ≡ c → e.place ≡ length (chain_of c own) → IsPrefix own v → (a : IsEntryAdded v w e) → chain_of c a.before ≡ chain_of c own
+pub added_same : (c : ℕ) (own v w : List HistoryEntry) (e : HistoryEntry) → e.chain ≡ c → e.place ≡ length (chain_of c own) → IsPrefix own v → (a : IsEntryAdded v w e) → chain_of c a.before ≡ chain_of c own
 added_same c own v w e chain place begins a =
     let pre = chain_prefix c own a.before (prefix_trans own v a.before begins a.seen) in
     let size : length (chain_of c a.before) ≡ length (chain_of c own) = ap (λ (k : ℕ). length (chain_of k a.before)) (sym chain) ∙ (a.place ∙ place) in
     sym (prefix_whole (chain_of c own) (chain_of c a.before) pre (omega (arith, size)))
 
-pub added_next : (c : ℕ) (v w : List Link) (e : Link) → e.chain ≡ c → IsEntryAdded v w e → next_of (chain_of c w) ≡ e.next
+pub added_next : (c : ℕ) (v w : List HistoryEntry) (e : HistoryEntry) → e.chain ≡ c → IsEntryAdded v w e → next_of (chain_of c w) ≡ e.next
 added_next c v w e chain a =
-    ap (λ (l : List Link). next_of (chain_of c l)) a.log ∙ (ap next_of (own_snoc c a.before e chain) ∙ next_snoc (chain_of c a.before) e)
+    ap (λ (l : List HistoryEntry). next_of (chain_of c l)) a.log ∙ (ap next_of (own_snoc c a.before e chain) ∙ next_snoc (chain_of c a.before) e)
 
-pub added_some : (c : ℕ) (v w : List Link) (e : Link) → e.chain ≡ c → IsEntryAdded v w e → 0 < length (chain_of c w)
+pub added_some : (c : ℕ) (v w : List HistoryEntry) (e : HistoryEntry) → e.chain ≡ c → IsEntryAdded v w e → 0 < length (chain_of c w)
 added_some c v w e chain a =
     let is : chain_of c w ≡ chain_of c a.before ++ e ∷ [] = ap (chain_of c) a.log ∙ own_snoc c a.before e chain in
     omega (arith, ap length is, length-append (chain_of c a.before) (e ∷ []))
 
 -- the memory of a chain that begins is the first entry's word
-pub first_memory : (c : ℕ) (v w : List Link) (e : Link) → e.chain ≡ c → IsFirstOfChain v w e → memory_after c w ≡ after_deed (zeros (0, 0)) e.deed
+pub first_memory : (c : ℕ) (v w : List HistoryEntry) (e : HistoryEntry) → e.chain ≡ c → IsFirstOfChain v w e → memory_after c w ≡ after_deed (zeros (0, 0)) e.deed
 first_memory c v w e chain f =
     let none : chain_of c f.added.before ≡ [] = subst (λ (k : ℕ). chain_of k f.added.before ≡ []) chain f.none in
-    let is : chain_of c w ≡ e ∷ [] = ap (chain_of c) f.added.log ∙ (own_snoc c f.added.before e chain ∙ ap (λ (l : List Link). l ++ e ∷ []) none) in
-    ap (λ (l : List Link). fold after_link (zeros (0, 0)) l) is
+    let is : chain_of c w ≡ e ∷ [] = ap (chain_of c) f.added.log ∙ (own_snoc c f.added.before e chain ∙ ap (λ (l : List HistoryEntry). l ++ e ∷ []) none) in
+    ap (λ (l : List HistoryEntry). fold after_link (zeros (0, 0)) l) is
 
 -- a chain that begins asks for nothing
-pub first_asked : (c : ℕ) (v w : List Link) (e : Link) → e.chain ≡ c → IsFirstOfChain v w e → asked_in (chain_of c w) ≡ with_asked e.deed []
+pub first_asked : (c : ℕ) (v w : List HistoryEntry) (e : HistoryEntry) → e.chain ≡ c → IsFirstOfChain v w e → asked_in (chain_of c w) ≡ with_asked e.deed []
 first_asked c v w e chain f =
     let none : chain_of c f.added.before ≡ [] = subst (λ (k : ℕ). chain_of k f.added.before ≡ []) chain f.none in
-    let is : chain_of c w ≡ e ∷ [] = ap (chain_of c) f.added.log ∙ (own_snoc c f.added.before e chain ∙ ap (λ (l : List Link). l ++ e ∷ []) none) in
+    let is : chain_of c w ≡ e ∷ [] = ap (chain_of c) f.added.log ∙ (own_snoc c f.added.before e chain ∙ ap (λ (l : List HistoryEntry). l ++ e ∷ []) none) in
     ap asked_in is
 
 -- a chain that begins has no entry of a journal
-pub first_entries : (c : ℕ) (v w : List Link) (e : Link) → e.chain ≡ c → IsFirstOfChain v w e → entries_of c w ≡ with_entry e.deed []
+pub first_entries : (c : ℕ) (v w : List HistoryEntry) (e : HistoryEntry) → e.chain ≡ c → IsFirstOfChain v w e → entries_of c w ≡ with_entry e.deed []
 first_entries c v w e chain f =
     let none : chain_of c f.added.before ≡ [] = subst (λ (k : ℕ). chain_of k f.added.before ≡ []) chain f.none in
-    let is : chain_of c w ≡ e ∷ [] = ap (chain_of c) f.added.log ∙ (own_snoc c f.added.before e chain ∙ ap (λ (l : List Link). l ++ e ∷ []) none) in
+    let is : chain_of c w ≡ e ∷ [] = ap (chain_of c) f.added.log ∙ (own_snoc c f.added.before e chain ∙ ap (λ (l : List HistoryEntry). l ++ e ∷ []) none) in
     ap entries_in is
 
 -- a word of that book that is tracked is the word of its key
@@ -333,7 +333,7 @@ pub known_word : (w : Named) (home : Book) → w.tracked ≡ true → w.book ≡
 known_word w home tracked book = λ i. record { tracked = tracked i; key = w.key; book = book i }
 
 -- whatever the book is, the exchange finds that the chain is what the pen's owner has of it
-pub looks_moves : (c : ℕ) (own v : List Link) (e : Link) (p : Nib) → c < 42 → IsPrefix own v → 0 < length (chain_of c own) → p.right ≡ may_write → p.key ≡ next_of (chain_of c own)
+pub looks_moves : (c : ℕ) (own v : List HistoryEntry) (e : HistoryEntry) (p : Nib) → c < 42 → IsPrefix own v → 0 < length (chain_of c own) → p.right ≡ may_write → p.key ≡ next_of (chain_of c own)
     → e.chain ≡ c → e.place ≡ length (chain_of c own)
     → Moves AreChained shown moved c (v, (p, None)) (λ n. either (n == 1) 1 n) (Looks (step c 1 1 e) (v, (p, None)))
 looks_moves c own v e p few begins some right key chain place cs log kept pre away =
@@ -351,6 +351,6 @@ looks_moves c own v e p few begins some right key chain place cs log kept pre aw
         tt,
         rw (unchanged cs log c few kept, all) kept,
         inl (refl, ap shown all),
-        (ap (λ (l : List Link). length (chain_of e.chain l)) all ∙ (ap length ours ∙ sym place), refl, subst AreAskedBefore (sym all) kept.asked),
+        (ap (λ (l : List HistoryEntry). length (chain_of e.chain l)) all ∙ (ap length ours ∙ sym place), refl, subst AreAskedBefore (sym all) kept.asked),
       ),
     )

@@ -13,7 +13,7 @@ use Rattle.annals.specs.declared.deed.Act.{Act}
 use Rattle.annals.specs.declared.deed.Act.TheVariants.{Leaves, Sets, Rotates, Publishes}
 use Rattle.annals.specs.declared.deed.Deed.{Deed}
 use Rattle.annals.specs.declared.deed.Deed.TheVariants.{Opens, Does, Asks, Shows}
-use Rattle.annals.specs.declared.deed.Link.{Link}
+use Rattle.annals.specs.declared.deed.HistoryEntry.{HistoryEntry}
 use Rattle.annals.specs.Chains.{ChainValue, Due, LineValue, IsLastDeed, at_bank, chain_of, with_left}
 
 -- that many zero bytes from an address on
@@ -35,11 +35,11 @@ after_deed m (Asks due) = m
 after_deed m Shows = m
 
 -- memory after an entry of the history
-abbrev pub after_link : Memory → Link → Memory
+abbrev pub after_link : Memory → HistoryEntry → Memory
 after_link m l = after_deed m l.deed
 
 -- the memory of a bank after a history: the replay of its chain
-abbrev pub memory_after : ℕ → List Link → Memory
+abbrev pub memory_after : ℕ → List HistoryEntry → Memory
 memory_after bank log = fold after_link (zeros (0, 0)) (chain_of bank log)
 
 -- the entry of a journal that a deed left, if any, before those
@@ -50,26 +50,26 @@ with_entry (Asks due) entries = entries
 with_entry Shows entries = entries
 
 -- the entries of journals that those deeds left, in order
-abbrev pub entries_in : List Link → List EntryValue
+abbrev pub entries_in : List HistoryEntry → List EntryValue
 entries_in [] = []
 entries_in (l ∷ ls) = with_entry l.deed (entries_in ls)
 
 -- all entries that a bank's journal ever had, oldest first, whatever was rotated
-abbrev pub entries_of : ℕ → List Link → List EntryValue
+abbrev pub entries_of : ℕ → List HistoryEntry → List EntryValue
 entries_of bank log = entries_in (chain_of bank log)
 
 -- those of a port's commands, oldest first
-abbrev pub entries_by : (port bank : ℕ) → List Link → List EntryValue
+abbrev pub entries_by : (port bank : ℕ) → List HistoryEntry → List EntryValue
 entries_by port bank log = filter (λ (e : EntryValue). e.port == port) (entries_of bank log)
 
 -- the answer to a judged command after a history, if there is room
-abbrev pub answer_after : ℕ → List Link → JudgedValue → Answer
+abbrev pub answer_after : ℕ → List HistoryEntry → JudgedValue → Answer
 answer_after bank log judged = answer (memory_after bank log) true (command_of judged.packet) judged.verdict
 
 -- The command was done at the bank that is its place. It is the last of a history that goes on from what the port knew.
 -- Status and reply are the definition's on the replay of what was before it. There the port had as many entries as its
 -- share says, with the numbers from 0 on, each once.
-pub record IsDoneAtBank (bank : ℕ) (known reached : List Link) (share : ShareValue) (judged : JudgedValue) (result : Applied)
+pub record IsDoneAtBank (bank : ℕ) (known reached : List HistoryEntry) (share : ShareValue) (judged : JudgedValue) (result : Applied)
     (reply : List ℕ) : Type 0 where
   pub place : judged.place ≡ Bank bank
   pub last : IsLastDeed bank known reached (Does (Leaves (entry_of share judged result.status)))

@@ -8,7 +8,7 @@ use Rattle.annals.specs.declared.deed.Act.{Act}
 use Rattle.annals.specs.declared.deed.Act.TheVariants.{Leaves, Sets, Rotates, Publishes}
 use Rattle.annals.specs.declared.deed.Deed.{Deed}
 use Rattle.annals.specs.declared.deed.Deed.TheVariants.{Opens, Does, Asks, Shows}
-use Rattle.annals.specs.declared.deed.Link.{Link}
+use Rattle.annals.specs.declared.deed.HistoryEntry.{HistoryEntry}
 use Rattle.annals.specs.Chains.{Due, LineValue, at_bank, at_chain, chain_of, done_for, line_with}
 
 -- the number of the chain of the publishes: the one after the chains of banks
@@ -30,12 +30,12 @@ with_publish (Asks due) publishes = publishes
 with_publish Shows publishes = publishes
 
 -- the publishes among those deeds, in order
-abbrev pub publishes_in : List Link → List Publish
+abbrev pub publishes_in : List HistoryEntry → List Publish
 publishes_in [] = []
 publishes_in (l ∷ ls) = with_publish l.deed (publishes_in ls)
 
 -- the programs that were published, in order: the place of each is its generation
-abbrev pub publishes_of : List Link → List Publish
+abbrev pub publishes_of : List HistoryEntry → List Publish
 publishes_of log = publishes_in (chain_of publishes_chain log)
 
 -- the publishes among those acts, in order
@@ -48,7 +48,7 @@ abbrev pub loads_in : List Due → List Publish
 loads_in dues = published_in (at_chain publishes_chain dues)
 
 -- those of a line's owner, in order
-abbrev pub loads_by : ℕ → List Link → List Publish
+abbrev pub loads_by : ℕ → List HistoryEntry → List Publish
 loads_by owner log = loads_in (done_for owner log)
 
 -- the line, and after what it asked for the publish of its owner
@@ -58,11 +58,11 @@ line_loading line publish = line_with line publishes_chain (Publishes (line.port
 -- a beginning of the history of that book
 pub record BeginningValue : Type 0 where
   pub book : Book
-  pub log : List Link
+  pub log : List HistoryEntry
 
 -- what begins a history has the publishes that begin the history's
 abbrev pub PublishesGrow : Type 0
-PublishesGrow = (known reached : List Link) → IsPrefix known reached → IsPrefix (publishes_of known) (publishes_of reached)
+PublishesGrow = (known reached : List HistoryEntry) → IsPrefix known reached → IsPrefix (publishes_of known) (publishes_of reached)
 
 -- a publish is no entry: what a line asked for at banks stays
 abbrev pub LoadsAreNoEntries : Type 0

@@ -5,7 +5,7 @@ use mathlib.Core.List.{IsPrefix}
 use Rattle.node_programs.specs.declared.publishes.Publish.{Publish}
 use Rattle.annals.specs.declared.deed.Deed.{Deed}
 use Rattle.annals.specs.declared.deed.Deed.TheVariants.{Opens, Does, Asks, Shows}
-use Rattle.annals.specs.declared.deed.Link.{Link}
+use Rattle.annals.specs.declared.deed.HistoryEntry.{HistoryEntry}
 use Rattle.annals.specs.Publishes.{publishes_of}
 
 -- how many programs a deed shows to readers
@@ -16,20 +16,20 @@ shows (Asks due) = 0
 shows Shows = 1
 
 -- how many programs readers see, in the order in which they were published
-abbrev pub shown_in : List Link → ℕ
-shown_in log = sum_by (λ (l : Link). shows l.deed) log
+abbrev pub shown_in : List HistoryEntry → ℕ
+shown_in log = sum_by (λ (l : HistoryEntry). shows l.deed) log
 
 -- the programs that readers see: the first of those that were published
-abbrev pub shown_of : List Link → List Publish
+abbrev pub shown_of : List HistoryEntry → List Publish
 shown_of log = take (shown_in log) (publishes_of log)
 
 -- at each moment readers saw no more programs than had been published
-abbrev pub AreListed : List Link → Type 0
-AreListed log = (before : List Link) → IsPrefix before log → shown_in before ≤ length (publishes_of before)
+abbrev pub AreListed : List HistoryEntry → Type 0
+AreListed log = (before : List HistoryEntry) → IsPrefix before log → shown_in before ≤ length (publishes_of before)
 
 -- at some moment after what was known, and not after what was reached, readers saw exactly these programs
-pub record IsTakenAtMoment (known reached : List Link) (programs : List Publish) : Type 0 where
-  pub at : List Link
+pub record IsTakenAtMoment (known reached : List HistoryEntry) (programs : List Publish) : Type 0 where
+  pub at : List HistoryEntry
   pub after : IsPrefix known at
   pub before : IsPrefix at reached
   pub seen : shown_of at ≡ programs

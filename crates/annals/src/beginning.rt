@@ -4,7 +4,7 @@ ghost use Rattle.std.specs.Prelude.{◌≡◌, ◌⊎◌};
 ghost use mathlib.Core.List.{IsPrefix};
 
 use crate::chains::{Chain, Chained, Family, Front};
-use crate::deed::Link;
+use crate::deed::HistoryEntry;
 use logbook::Seen;
 use std::marker::{Model, PhantomData};
 
@@ -12,7 +12,7 @@ use std::marker::{Model, PhantomData};
 /// book, and the entries.
 #[derive(Drop)]
 pub struct Beginning {
-    pub(crate) seen: Seen<Link, u64, Chained>,
+    pub(crate) seen: Seen<HistoryEntry, u64, Chained>,
 }
 
 impl Model for Beginning {

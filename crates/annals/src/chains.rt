@@ -3,12 +3,12 @@
 ghost use Rattle.std.specs.Prelude.{◌≡◌, ◌<◌, ◌≤◌, ◌+◌, ◌∷◌, ◌++◌, ◌⊎◌, ℕ, List, [], length, IfSome};
 ghost use mathlib.Core.List.{IsPrefix};
 ghost use Rattle.logbook.specs.Pages.{may_write};
-ghost use Rattle.annals.specs.declared.deed.Link.{Link};
+ghost use Rattle.annals.specs.declared.deed.HistoryEntry.{HistoryEntry};
 ghost use Rattle.annals.specs.Chains.{chain_word_of, chain_of, asked_in, IsDue, IsLastOf, IsChainWhole};
 ghost use Rattle.annals.specs.Banks.{memory_after, zeros, entries_of};
 ghost use Rattle.annals.specs.Publishes.{publishes_in};
 
-use crate::deed::{Link, OpensBank, Announces};
+use crate::deed::{Announces, HistoryEntry, OpensBank};
 use crate::published_count::PublishedCount;
 use logbook::{Gain, Offer, Opening, Pen, Pens, Plain, Play, Rule, Seen, Start, Word};
 use std::marker::{Brand, Model, PhantomData};
@@ -17,7 +17,7 @@ use std::marker::{Brand, Model, PhantomData};
 /// programs that readers see.
 pub(crate) struct Chained;
 
-impl Rule<Link, u64> for Chained {
+impl Rule<HistoryEntry, u64> for Chained {
     ghost use Rattle.std.specs.Prelude.{[]};
     ghost use base.Fml.{ftrue};
     ghost use Rattle.annals.specs.Rule.{AreChained};
@@ -38,7 +38,7 @@ impl Rule<Link, u64> for Chained {
 /// The history begins empty.
 struct Empty;
 
-impl Opening<(), Link> for Empty {
+impl Opening<(), HistoryEntry> for Empty {
     ghost use Rattle.std.specs.Prelude.{[]};
 
     ghost log = { λ n _. [] };
@@ -47,7 +47,7 @@ impl Opening<(), Link> for Empty {
 /// Callers trade nothing.
 pub(crate) struct Nothing;
 
-impl Gain<Link, u64> for Nothing {
+impl Gain<HistoryEntry, u64> for Nothing {
     ghost use base.Fml.{ftrue};
 
     ghost after = { λ names about answer. ftrue };
@@ -56,8 +56,8 @@ impl Gain<Link, u64> for Nothing {
 /// What a step adds to a chain: a deed, and the pen that adds the next one.
 #[derive(Drop)]
 struct Adding<'a, D: Announces> {
-    word: &'a Word<Link, u64, Chained>,
-    seen: &'a Seen<Link, u64, Chained>,
+    word: &'a Word<HistoryEntry, u64, Chained>,
+    seen: &'a Seen<HistoryEntry, u64, Chained>,
     reported: &'a D,
     fresh: &'a Pen,
 }
@@ -65,13 +65,13 @@ struct Adding<'a, D: Announces> {
 /// A step that gives a pen of a new cell.
 struct Draw;
 
-impl Play<Link, u64> for Draw {
+impl Play<HistoryEntry, u64> for Draw {
     ghost use Rattle.annals.specs.Chains.{Draws};
 
     ghost then = { Draws };
 }
 
-impl Plain<(), Link, u64> for Draw {
+impl Plain<(), HistoryEntry, u64> for Draw {
     ghost use Rattle.std.specs.Prelude.{None};
     ghost use Rattle.annals.specs.Chains.{blank};
 
@@ -83,7 +83,7 @@ impl Plain<(), Link, u64> for Draw {
 /// A step that adds the first entry of a chain.
 struct Begin;
 
-impl Play<Link, u64> for Begin {
+impl Play<HistoryEntry, u64> for Begin {
     ghost use Rattle.annals.specs.Chains.{Begins};
 
     ghost then = { Begins };
@@ -92,7 +92,7 @@ impl Play<Link, u64> for Begin {
 /// A step that adds an entry.
 struct Add;
 
-impl Play<Link, u64> for Add {
+impl Play<HistoryEntry, u64> for Add {
     ghost use Rattle.annals.specs.Chains.{Adds};
 
     ghost then = { Adds };
@@ -101,13 +101,13 @@ impl Play<Link, u64> for Add {
 /// A step that looks whether the chain is longer.
 struct Look;
 
-impl Play<Link, u64> for Look {
+impl Play<HistoryEntry, u64> for Look {
     ghost use Rattle.annals.specs.Chains.{Looks};
 
     ghost then = { Looks };
 }
 
-impl<'a, D: Announces> Plain<Adding<'a, D>, Link, u64> for Add {
+impl<'a, D: Announces> Plain<Adding<'a, D>, HistoryEntry, u64> for Add {
     ghost use Rattle.std.specs.Prelude.{None, length};
     ghost use Rattle.annals.specs.Chains.{link, chain_of};
 
@@ -128,17 +128,19 @@ impl Family for Brand {
 }
 
 /// A pen of a new cell.
-fn drawn(word: &Word<Link, u64, Chained>, seen: &Seen<Link, u64, Chained>) -> Pen
+fn drawn(word: &Word<HistoryEntry, u64, Chained>, seen: &Seen<HistoryEntry, u64, Chained>) -> Pen
     requires word { word.now ≡ chain_word_of seen.now.book word.now.key }
     requires few { word.now.key < 42 }
     ensures book { result.book ≡ seen.now.book }
     ensures right { result.nib.right ≡ may_write }
 {
     let mut seen = seen.again();
-    let mut offer: Offer<Link, u64, Chained, Nothing> = seen.plain::<Nothing, (), Draw>(&());
+    let mut offer: Offer<HistoryEntry, u64, Chained, Nothing> = seen.plain::<Nothing, (), Draw>(
+        &(),
+    );
     let mut pen = seen.no_pen();
     let _one = word.compare_exchange::<Draw, Nothing>(1, 1, &mut seen, &mut offer, &mut pen);
-    let _cell: Word<Link, u64, Chained> = Word::tracked(0, &mut pen);
+    let _cell: Word<HistoryEntry, u64, Chained> = Word::tracked(0, &mut pen);
     pen
 }
 
@@ -147,7 +149,7 @@ fn drawn(word: &Word<Link, u64, Chained>, seen: &Seen<Link, u64, Chained>) -> Pe
 #[derive(Drop)]
 pub struct EmptyHistory {
     pens: Pens,
-    seen: Seen<Link, u64, Chained>,
+    seen: Seen<HistoryEntry, u64, Chained>,
 }
 
 impl Model for EmptyHistory {
@@ -209,11 +211,11 @@ impl EmptyHistory {
         ensures publishes { IfSome result (λ c. publishes_in (chain_of c.number c.log) ≡ []) }
     {
         let mut pen = self.pens.take();
-        let head: Word<Link, u64, Chained> = Word::tracked(0, &mut pen);
+        let head: Word<HistoryEntry, u64, Chained> = Word::tracked(0, &mut pen);
         let mut seen = self.seen.again();
         let fresh = drawn(&head, &seen);
         let opening = OpensBank(opening);
-        let mut offer: Offer<Link, u64, Chained, Nothing> = seen.plain::<
+        let mut offer: Offer<HistoryEntry, u64, Chained, Nothing> = seen.plain::<
             Nothing,
             Adding<OpensBank>,
             Add,
@@ -257,9 +259,9 @@ impl EmptyHistory {
 /// the history, with all that the chain has.
 #[derive(Drop)]
 pub struct Chain<J: Family> {
-    word: Word<Link, u64, Chained>,
+    word: Word<HistoryEntry, u64, Chained>,
     pen: Pen,
-    pub(crate) seen: Seen<Link, u64, Chained>,
+    pub(crate) seen: Seen<HistoryEntry, u64, Chained>,
     of: PhantomData<J>,
 }
 
@@ -275,7 +277,7 @@ impl<J: Family> Model for Chain<J> {
 
 impl<J: Family> Chain<J> {
     /// Somebody learns all that is known of the chain.
-    pub(crate) fn tell(&self, front: &mut Front<J>)
+    pub(crate) fn announce(&self, front: &mut Front<J>)
         ensures chain { IsPrefix self.now.log front.new }
         ensures front { IsPrefix front.old front.new }
     {
@@ -292,7 +294,7 @@ impl<J: Family> Chain<J> {
         ensures added { IsLastOf self.old front.old front.new (D.deed reported.now) }
     {
         let fresh = drawn(&self.word, &self.seen);
-        let mut offer: Offer<Link, u64, Chained, Nothing> = front
+        let mut offer: Offer<HistoryEntry, u64, Chained, Nothing> = front
             .seen
             .plain::<Nothing, Adding<D>, Add>(&Adding {
                 word: &self.word,
@@ -310,12 +312,12 @@ impl<J: Family> Chain<J> {
     /// Adds a deed, after all that is known of the chain and all that somebody has seen, who then has seen it too. The
     /// condition is a deed of no command.
     pub(crate) fn add<D: Announces>(&mut self, front: &mut Front<J>, reported: &D)
-        requires free { (log : List Link) → IsDue self.old.number (D.deed reported.now) log }
+        requires free { (log : List HistoryEntry) → IsDue self.old.number (D.deed reported.now) log }
         ensures number { self.new.number ≡ self.old.number }
         ensures log { self.new.log ≡ front.new }
         ensures added { IsLastOf self.old front.old front.new (D.deed reported.now) }
     {
-        self.tell(front);
+        self.announce(front);
         self.push(front, reported);
     }
 
@@ -325,7 +327,7 @@ impl<J: Family> Chain<J> {
         ensures same { self.new ≡ self.old }
     {
         let opening = OpensBank((0, 0, 0));
-        let mut offer: Offer<Link, u64, Chained, Nothing> = self
+        let mut offer: Offer<HistoryEntry, u64, Chained, Nothing> = self
             .seen
             .plain::<Nothing, Adding<OpensBank>, Add>(&Adding {
                 word: &self.word,
@@ -344,15 +346,15 @@ impl<J: Family> Chain<J> {
 /// A beginning of the history that was seen. Contracts see it as its entries.
 #[derive(Drop)]
 pub struct Front<J: Family> {
-    pub(crate) seen: Seen<Link, u64, Chained>,
+    pub(crate) seen: Seen<HistoryEntry, u64, Chained>,
     pub(crate) of: PhantomData<J>,
 }
 
 impl<J: Family> Model for Front<J> {
     ghost use Rattle.std.specs.Prelude.{◌≡◌, List};
-    ghost use Rattle.annals.specs.declared.deed.Link.{Link};
+    ghost use Rattle.annals.specs.declared.deed.HistoryEntry.{HistoryEntry};
 
-    ghost Value = { List Link };
+    ghost Value = { List HistoryEntry };
 
     ghost view = { λ f. f.seen.log };
 

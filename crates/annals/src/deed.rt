@@ -34,7 +34,7 @@ pub enum Deed {
 /// An entry of the history. It has a deed and the number of the deed's chain, which is that of a bank, of the
 /// publishes, or of a line. It also has its place among the deeds there, and the key of the cell whose pen adds the
 /// next one. No value of it is made.
-pub struct Link {
+pub struct HistoryEntry {
     pub chain: u64,
     pub place: u64,
     pub deed: Deed,

@@ -8,7 +8,7 @@ ghost use Rattle.annals.specs.Banks.{CountsOn, IsAppliedTo, IsDoneAtBank, IsFres
 ghost use Rattle.annals.specs.Chains.{IsLastDeed, chain_of, instrument, line_with};
 ghost use mathlib.Core.List.{IsPrefix};
 
-use crate::chains::{Chain, Family, Front, EmptyHistory};
+use crate::chains::{Chain, EmptyHistory, Family, Front};
 use crate::deed::{Rotation, Setting};
 use crate::line::Line;
 use bank::{Applied, Bank, Journal, Judged, Share};

@@ -17,14 +17,14 @@ mod deed;
 mod kept;
 mod laws;
 mod line;
-mod publishes;
 mod published_count;
+mod publishes;
 
 pub use beginning::Beginning;
-pub use chains::{Chain, Family, Front, EmptyHistory};
-pub use deed::{Act, Deed, Link};
+pub use chains::{Chain, EmptyHistory, Family, Front};
+pub use deed::{Act, Deed, HistoryEntry};
 pub use kept::Kept;
 pub use laws::{acts_grow, loads_are_apart, publishes_grow, share_one_history};
 pub use line::Line;
-pub use publishes::BANK_CHAINS;
 pub use published_count::PublishedCount;
+pub use publishes::BANK_CHAINS;

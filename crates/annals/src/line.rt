@@ -7,8 +7,8 @@ ghost use Rattle.bank.specs.Records.{numbers_of};
 ghost use Rattle.annals.specs.Banks.{entries_of, numbers_at};
 ghost use Rattle.annals.specs.Chains.{IsLastOf, done_for, instrument, line_chain_of, line_with, owner_of};
 
-use crate::chains::{Chain, Family, Front, EmptyHistory};
-use crate::deed::{Asking, Doing, AnnouncesAct};
+use crate::chains::{Chain, EmptyHistory, Family, Front};
+use crate::deed::{AnnouncesAct, Asking, Doing};
 use std::marker::Model;
 
 /// The number of the instrument's line. Those of ports are below it.
@@ -99,7 +99,7 @@ impl<J: Family> Line<J> {
         ensures added { IsLastOf chain.old front.old front.new (Does (A.act act.now)) }
         ensures asked { self.new ≡ line_with self.old number (A.act act.now) }
     {
-        chain.tell(front);
+        chain.announce(front);
         front.learn(&self.left);
         self.chain.add(front, &Asking { chain: number, act });
         chain.push(front, &Doing { act });
@@ -107,7 +107,7 @@ impl<J: Family> Line<J> {
     }
 
     /// Somebody learns enough of the history that all which the line asked for is in it, done.
-    pub fn tell(&self, front: &mut Front<J>)
+    pub fn announce(&self, front: &mut Front<J>)
         ensures known { IsPrefix front.old front.new }
         ensures reported { IsPrefix self.now.asked (done_for self.now.port front.new) }
     {

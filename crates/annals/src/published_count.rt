@@ -8,25 +8,25 @@ ghost use Rattle.annals.specs.Rule.{Counts, Raises, showing, shown_word};
 ghost use Rattle.annals.specs.Shown.{shown_in, AreListed, IsTakenAtMoment};
 
 use crate::chains::{Chained, Family, Front, Nothing};
-use crate::deed::Link;
+use crate::deed::HistoryEntry;
 use logbook::{Offer, Plain, Play, Word};
 use std::marker::PhantomData;
 
 /// A step that reads how many programs readers see.
 struct Count;
 
-impl Play<Link, u64> for Count {
+impl Play<HistoryEntry, u64> for Count {
     ghost then = { Counts };
 }
 
 /// A step that shows one program more.
 struct Raise;
 
-impl Play<Link, u64> for Raise {
+impl Play<HistoryEntry, u64> for Raise {
     ghost then = { Raises };
 }
 
-impl Plain<(), Link, u64> for Raise {
+impl Plain<(), HistoryEntry, u64> for Raise {
     ghost ask = { λ _. showing };
 
     ghost state = { λ _. None };
@@ -35,7 +35,7 @@ impl Plain<(), Link, u64> for Raise {
 /// The word that says how many of the published programs readers see. The publisher and the readers share it.
 #[derive(Drop)]
 pub struct PublishedCount<J: Family> {
-    pub(crate) word: Word<Link, u64, Chained>,
+    pub(crate) word: Word<HistoryEntry, u64, Chained>,
     pub(crate) of: PhantomData<J>,
     ghost word_is: { word ≡ chain_word_of J.book shown_word },
 }
@@ -46,7 +46,7 @@ impl<J: Family> PublishedCount<J> {
         ensures seen { IsPrefix front.old front.new }
         ensures shown { shown_in front.new ≡ result }
     {
-        let mut offer: Offer<Link, u64, Chained, Nothing> = front
+        let mut offer: Offer<HistoryEntry, u64, Chained, Nothing> = front
             .seen
             .plain::<Nothing, (), Raise>(&());
         self.word
@@ -61,7 +61,7 @@ impl<J: Family> PublishedCount<J> {
         ensures seen { IsPrefix front.old front.new }
         ensures shown { count ≤ shown_in front.old + 1 → count ≤ shown_in front.new }
     {
-        let mut offer: Offer<Link, u64, Chained, Nothing> = front
+        let mut offer: Offer<HistoryEntry, u64, Chained, Nothing> = front
             .seen
             .plain::<Nothing, (), Raise>(&());
         let mut pen = front.seen.no_pen();

@@ -10,7 +10,7 @@ ghost use Rattle.annals.specs.Chains.{IsLastDeed};
 ghost use Rattle.annals.specs.Publishes.{line_loading, publishes_chain, publishes_of};
 
 use crate::beginning::Beginning;
-use crate::chains::{Chain, Family, Front, EmptyHistory};
+use crate::chains::{Chain, EmptyHistory, Family, Front};
 use crate::deed::Publishing;
 use crate::line::Line;
 use bver::Accepted;

@@ -7,8 +7,8 @@ ghost use Rattle.basm.specs.Outcomes.{Makes, out_of_memory};
 ghost use Rattle.basm.specs.Relation.{IsText, pieces_of};
 ghost use Rattle.basm.specs.declared.faults.AsmCode.TheVariants.{Memory};
 
-use crate::partial_image::PartialImage;
 use crate::faults::{AsmCode, AsmFault};
+use crate::partial_image::PartialImage;
 use crate::pieces::pieces_of;
 use crate::survey::Survey;
 use basm_lex::mnemonic_laws;

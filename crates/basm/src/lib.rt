@@ -7,11 +7,11 @@
 mod assembly;
 mod directives;
 mod disassembly;
-mod partial_image;
 mod faults;
 mod instructions;
 mod laws;
 mod names;
+mod partial_image;
 mod pieces;
 mod survey;
 mod targets;

@@ -18,4 +18,4 @@ pub use mnemonics::{Mnemonic, mnemonic_laws, read_mnemonic};
 pub use names::{is_name, label_name};
 pub use numbers::{NumberFault, distance, number, wide_number};
 pub use registers::register;
-pub use statements::{LineHead, InstructionLine, before_comment, read_head, read_statement};
+pub use statements::{InstructionLine, LineHead, before_comment, read_head, read_statement};

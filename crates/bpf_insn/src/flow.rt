@@ -89,7 +89,8 @@ impl Insn {
     pub fn writes(&self, register: Register) -> bool
         ensures { result ≡ is_written self.now register }
     {
-        is_register_named(self.written(), register) || self.flow().clobbered() >> register.number() & 1 == 1
+        is_register_named(self.written(), register)
+            || self.flow().clobbered() >> register.number() & 1 == 1
     }
 
     /// The base register of a load or a store, through which it accesses memory.

@@ -200,7 +200,13 @@ impl<'a> Body<'a> {
     }
 
     /// Lowers the register if an edge back to the head lowers it.
-    fn lower_one(&self, table: &StateTable<'_>, edge: &State, lowered: &mut Lowered, register: Register)
+    fn lower_one(
+        &self,
+        table: &StateTable<'_>,
+        edge: &State,
+        lowered: &mut Lowered,
+        register: Register,
+    )
         requires inside { self.now.declared.head < length table.now.program.slots }
         requires register { register ≤ 9 }
         ensures { AreLowered self.now (knowledge_in table.now self.now.declared.head) edge.now

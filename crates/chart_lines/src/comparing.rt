@@ -12,7 +12,7 @@ ghost use Rattle.chart_lines.specs.Reporting.{PrintsFirst};
 use crate::asked::AskedRules;
 use crate::drawing::comparison_of;
 use crate::ports::{PORTS, Tables};
-use crate::rows::{RowChange, ChartRow, RowContent, add_row, rules_on_lines};
+use crate::rows::{ChartRow, RowChange, RowContent, add_row, rules_on_lines};
 use crate::witnesses::{line_at, witness};
 use charts::{ChartLine, charts_are_read};
 use differences::{decision_path, joined, repeats_of, sign_of};

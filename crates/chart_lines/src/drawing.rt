@@ -5,7 +5,7 @@ ghost use Rattle.charts.specs.Lines.{IsComparison, IsMap};
 
 use crate::boxes::address_parts;
 use crate::parts::{Part, Tables};
-use charts::{FIELDS, ChartLine, comparison_cells, is_in_pieces, map_cells};
+use charts::{ChartLine, FIELDS, comparison_cells, is_in_pieces, map_cells};
 use policy_table::{Rule, agrees_with_kind};
 use regions::{ByteSet, Kinds, Point, PointRegion};
 use rmap::Kind;
@@ -295,7 +295,11 @@ fn lines(alloc: Global, tables: &Tables<'_>) -> Result<Vec<ChartLine>, AllocErro
 /// # Errors
 ///
 /// Only if memory is refused.
-pub fn map_of(alloc: Global, asked: &PointRegion, rules: &[Rule]) -> Result<Vec<ChartLine>, AllocError>
+pub fn map_of(
+    alloc: Global,
+    asked: &PointRegion,
+    rules: &[Rule],
+) -> Result<Vec<ChartLine>, AllocError>
     ensures { IfOk result (λ lines. IsMap asked.now rules.now lines.items) }
 {
     let all = true;

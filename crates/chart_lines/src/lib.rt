@@ -22,4 +22,4 @@ pub use drawing::{comparison_of, map_of};
 pub use mapping::map_rows;
 pub use never::{Note, Reason, never_matching};
 pub use ports::{PORTS, Tables};
-pub use rows::{RowChange, ChartRow, RowContent};
+pub use rows::{ChartRow, RowChange, RowContent};

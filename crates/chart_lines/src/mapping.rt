@@ -21,7 +21,12 @@ use regions::{Point, PointRegion};
 use std::alloc::{AllocError, Global};
 
 /// A line as a row says it: its words, and what the table asks at a point.
-fn map_line_text(alloc: Global, at: &AskedRules, line: &ChartLine, point: &Point) -> Result<RowContent, AllocError>
+fn map_line_text(
+    alloc: Global,
+    at: &AskedRules,
+    line: &ChartLine,
+    point: &Point,
+) -> Result<RowContent, AllocError>
     ensures { IfOk result (λ said. said ≡ map_line_text at.now line.now point.now) }
 {
     let steps = decision_path(alloc, at.rules(), point)?;
@@ -112,7 +117,11 @@ fn add_port(
 }
 
 /// The rows of a map at each port.
-fn rows_at_all(alloc: Global, asked: &PointRegion, policy: &Policy) -> Result<Vec<ChartRow>, AllocError>
+fn rows_at_all(
+    alloc: Global,
+    asked: &PointRegion,
+    policy: &Policy,
+) -> Result<Vec<ChartRow>, AllocError>
     ensures { IfOk result (λ rows. PrintsPorts asked.now policy.now 32 [] rows.items) }
 {
     let mut rows = Vec::new(alloc);
@@ -123,7 +132,12 @@ fn rows_at_all(alloc: Global, asked: &PointRegion, policy: &Policy) -> Result<Ve
 }
 
 /// The rows of a map at a port.
-fn rows_at(alloc: Global, asked: &PointRegion, port: u8, policy: &Policy) -> Result<Vec<ChartRow>, AllocError>
+fn rows_at(
+    alloc: Global,
+    asked: &PointRegion,
+    port: u8,
+    policy: &Policy,
+) -> Result<Vec<ChartRow>, AllocError>
     ensures { IfOk result (λ rows.
         PrintsLines asked.now (port ∷ []) (asked_at policy.now port) [] rows.items) }
 {

@@ -317,7 +317,11 @@ fn tables_of(alloc: Global, policy: &Policy) -> Result<Vec<AskedRules>, AllocErr
 }
 
 /// Which of these rules never match.
-fn notes_of(alloc: Global, tables: &[AskedRules], rules: &[PortRule]) -> Result<Vec<Note>, AllocError>
+fn notes_of(
+    alloc: Global,
+    tables: &[AskedRules],
+    rules: &[PortRule],
+) -> Result<Vec<Note>, AllocError>
     ensures { IfOk result (λ notes. PrintsFirst (IsNotedAt tables.now rules.now)
         (length rules.now) [] notes.items) }
 {

@@ -7,7 +7,7 @@ ghost use Rattle.chart_lines.specs.Begun.{SayOther};
 ghost use Rattle.chart_lines.specs.Rows.{AddsRow, EndSame, RowValue, SaysAt, WantSame, rule_line_of, on_line, rules_on_lines, row_of, reported};
 
 use charts::ChartLine;
-use differences::{Repeats, Sign, AskedRule};
+use differences::{AskedRule, Repeats, Sign};
 use policy_table::Rule;
 use regions::{Point, PointRegion};
 use std::alloc::{AllocError, Global};
@@ -46,7 +46,11 @@ impl Model for RowContent {
 
 impl RowContent {
     /// The content of a row of a map: the words of a line, and the rules that the table asks, by their lines.
-    pub(crate) fn of_map(alloc: Global, line: &ChartLine, decision_path: Vec<AskedRule>) -> RowContent
+    pub(crate) fn of_map(
+        alloc: Global,
+        line: &ChartLine,
+        decision_path: Vec<AskedRule>,
+    ) -> RowContent
         ensures { result ≡ reported line.now.region line.now.rest decision_path.items [] None }
     {
         RowContent {
@@ -60,7 +64,12 @@ impl RowContent {
 
     /// The content of a row of a comparison: the words of a line, the rules that each table asks, and how the new one
     /// differs.
-    pub(crate) fn of_two(line: &ChartLine, decision_path: Vec<AskedRule>, new: Vec<AskedRule>, change: RowChange) -> RowContent
+    pub(crate) fn of_two(
+        line: &ChartLine,
+        decision_path: Vec<AskedRule>,
+        new: Vec<AskedRule>,
+        change: RowChange,
+    ) -> RowContent
         requires { HasCommand change.point }
         ensures { result ≡ reported line.now.region line.now.rest decision_path.items new.items (Some change) }
     {
@@ -95,7 +104,7 @@ impl RowContent {
     }
 
     /// The rules that the new table asks; none in a map.
-    pub fn new_course(&self) -> &[AskedRule]
+    pub fn new_path(&self) -> &[AskedRule]
         ensures { result.now ≡ self.now.new }
     {
         self.new.as_slice()
@@ -117,7 +126,7 @@ impl RowContent {
             && (self.rest == other.rest
                 && (is_same_change(self.change, other.change)
                     && (are_same(self.decision_path(), other.decision_path())
-                        && are_same(self.new_course(), other.new_course()))))
+                        && are_same(self.new_path(), other.new_path()))))
     }
 }
 
@@ -311,7 +320,12 @@ fn join(rows: &mut Vec<ChartRow>, place: usize, ports: &[u8]) -> Result<(), Allo
 }
 
 /// Adds a row.
-fn push_row(rows: &mut Vec<ChartRow>, alloc: Global, ports: &[u8], reported: RowContent) -> Result<(), AllocError>
+fn push_row(
+    rows: &mut Vec<ChartRow>,
+    alloc: Global,
+    ports: &[u8],
+    reported: RowContent,
+) -> Result<(), AllocError>
     ensures { OnOk result (rows.new.items ≡ rows.old.items ++ row_of ports.now reported ∷ []) }
 {
     let ports = Vec::from_slice(alloc, ports)?;

@@ -43,8 +43,8 @@ chart_of asked all old new cells are p has = by_cells (are p has)
         (record {
           line = line_of h.cell;
           alone = lines_at [] cells p ∙ ap (λ (cs : List Cell). map line_of cs) h.alone;
-          old_course = path_same 1 old p h.cell.point olds;
-          new_course = path_same 1 new p h.cell.point news;
+          old_path = path_same 1 old p h.cell.point olds;
+          new_path = path_same 1 new p h.cell.point news;
         })
     by_cells (inr h) =
         subst (λ (t : Bool). IsReportedRightly t old new (map line_of cells) p) (sym h.1) (lines_at [] cells p ∙ ap (λ (cs : List Cell). map line_of cs) h.0)

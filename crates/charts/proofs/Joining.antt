@@ -90,7 +90,7 @@ lines_joined before (line ∷ ones) others p =
 
 same_told : (reported is : Bool) (old new : List Rule) (lines others : List ChartLine) (p : Point) → reported ≡ is → point_lines_of [] others p ≡ point_lines_of [] lines p
     → IsReportedRightly reported old new lines p → IsReportedRightly is old new others p
-same_told true true old new lines others p e same h = record { line = h.line; alone = same ∙ h.alone; old_course = h.old_course; new_course = h.new_course }
+same_told true true old new lines others p e same h = record { line = h.line; alone = same ∙ h.alone; old_path = h.old_path; new_path = h.new_path }
 same_told false false old new lines others p e same h = same ∙ h
 same_told true false old new lines others p e same h = absurd (cc (e))
 same_told false true old new lines others p e same h = absurd (cc (e))

@@ -43,4 +43,4 @@ pub path_wrong : (old new : List Rule) (lines : List ChartLine) (p : Point) (lin
     → IsReportedWrongly true old new lines p
 path_wrong old new lines p line rest one differ = λ right.
     let own : right.line ≡ line = ap (λ (ls : List ChartLine). get_or ls 0 line) (sym right.alone ∙ one) in
-    differ (right.old_course ∙ ap (λ (l : ChartLine). decision_path old l.point) own) (right.new_course ∙ ap (λ (l : ChartLine). decision_path new l.point) own)
+    differ (right.old_path ∙ ap (λ (l : ChartLine). decision_path old l.point) own) (right.new_path ∙ ap (λ (l : ChartLine). decision_path new l.point) own)

@@ -67,7 +67,7 @@ pub charts_are_read : ChartsAreRead
 charts_are_read = record {
   reported = λ asked all old new lines chart p has e.
       let once : IsReportedOnce old new lines p = rightly (is_reported asked all old new p) old new lines p true e (chart p has) in
-      (once.line, sym (first_line [] lines p tt) ∙ ap first_of once.alone, once.old_course, once.new_course);
+      (once.line, sym (first_line [] lines p tt) ∙ ap first_of once.alone, once.old_path, once.new_path);
   unreported = λ asked all old new lines chart p has e.
       let none : point_lines_of [] lines p ≡ [] = rightly (is_reported asked all old new p) old new lines p false e (chart p has) in
       sym (first_line [] lines p tt) ∙ ap first_of none;

@@ -122,5 +122,5 @@ reported_settled asked all old new lines p q _ _ same right =
     turned (is_reported asked all old new p) (path_same 1 old p q olds) (path_same 1 new p q news) there (subst (λ (t : Bool). IsReportedRightly t old new lines q) reported right)
   where
     turned : (t : Bool) → decision_path old p ≡ decision_path old q → decision_path new p ≡ decision_path new q → point_lines_of [] lines p ≡ point_lines_of [] lines q → IsReportedRightly t old new lines q → IsReportedRightly t old new lines p
-    turned true o n e h = record { line = h.line; alone = e ∙ h.alone; old_course = o ∙ h.old_course; new_course = n ∙ h.new_course }
+    turned true o n e h = record { line = h.line; alone = e ∙ h.alone; old_path = o ∙ h.old_path; new_path = n ∙ h.new_path }
     turned false o n e h = e ∙ h

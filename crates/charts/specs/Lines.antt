@@ -69,8 +69,8 @@ pub record IsNextLine (lines : List ChartLine) (from : ℕ) (p : Point) (next : 
 pub record IsReportedOnce (old new : List Rule) (lines : List ChartLine) (p : Point) : Type 0 where
   pub line : ChartLine
   pub alone : point_lines_of [] lines p ≡ line ∷ []
-  pub old_course : decision_path old p ≡ decision_path old line.point
-  pub new_course : decision_path new p ≡ decision_path new line.point
+  pub old_path : decision_path old p ≡ decision_path old line.point
+  pub new_path : decision_path new p ≡ decision_path new line.point
 
 -- if a point is reported, it lies in only one line, and else in none
 abbrev pub IsReportedRightly : (reported : Bool) → (old new : List Rule) → List ChartLine → Point → Type 0

@@ -15,9 +15,9 @@ mod lines;
 mod matches;
 mod meetings;
 mod pieces;
+mod reported;
 mod rests;
 mod shapes;
-mod reported;
 mod walks;
 
 pub use comparisons::first_difference;
@@ -30,6 +30,6 @@ pub use lines::ChartLine;
 pub use matches::never_matches;
 pub use meetings::{is_asked, is_asked_where, is_stopped_by};
 pub use pieces::{FIELDS, is_in_pieces};
+pub use reported::{comparison_cells, map_cells};
 pub use rests::point_in;
 pub use shapes::region_of;
-pub use reported::{comparison_cells, map_cells};

@@ -97,7 +97,13 @@ pub(crate) struct Chart<'a> {
 
 /// Whether a point lies in only one line, with the courses of the tables there; or in none, if it is not to be
 /// reported.
-fn is_reported_rightly(reported: bool, old: &[Rule], new: &[Rule], lines: &[ChartLine], point: &Point) -> bool
+fn is_reported_rightly(
+    reported: bool,
+    old: &[Rule],
+    new: &[Rule],
+    lines: &[ChartLine],
+    point: &Point,
+) -> bool
     ensures { MatchBool result (IsReportedRightly reported old.now new.now lines.now point.now)
         (IsReportedWrongly reported old.now new.now lines.now point.now) }
 {
@@ -111,7 +117,12 @@ fn is_reported_rightly(reported: bool, old: &[Rule], new: &[Rule], lines: &[Char
 }
 
 /// The points of the rule of that number, or else of the line, which come after all rules.
-fn rule_or_line(old: &[Rule], new: &[Rule], lines: &[ChartLine], number: usize) -> Option<PointRegion>
+fn rule_or_line(
+    old: &[Rule],
+    new: &[Rule],
+    lines: &[ChartLine],
+    number: usize,
+) -> Option<PointRegion>
     ensures { MatchOption result
         (length (tests_of (old.now ++ new.now) ++ map (λ line. lies_in line.region) lines.now) ≤ number)
         (IsShapeAt (tests_of (old.now ++ new.now) ++ map (λ line. lies_in line.region) lines.now) number) }

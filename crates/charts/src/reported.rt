@@ -96,7 +96,11 @@ fn cell_lines(
 /// # Errors
 ///
 /// Only if memory is refused.
-pub fn map_cells(alloc: Global, asked: &PointRegion, rules: &[Rule]) -> Result<Vec<ChartLine>, AllocError>
+pub fn map_cells(
+    alloc: Global,
+    asked: &PointRegion,
+    rules: &[Rule],
+) -> Result<Vec<ChartLine>, AllocError>
     ensures { IfOk result (λ lines. IsMap asked.now rules.now lines.items) }
 {
     let all = true;

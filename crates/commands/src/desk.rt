@@ -100,7 +100,7 @@ pub trait Desk {
     /// # Errors
     ///
     /// An error if memory was refused and that must end all.
-    fn tell<T: Display + Drop>(&self, reported: Result<T, AllocError>) -> Result<(), AllocError>;
+    fn report<T: Display + Drop>(&self, reported: Result<T, AllocError>) -> Result<(), AllocError>;
 
     /// Prints that output was lost.
     ///

@@ -17,15 +17,15 @@ use crate::asked::{Waits, asked_of, wait_report, words_or_judge};
 use crate::desk::Desk;
 use crate::dumps::DumpTalk;
 use crate::ends::{end_report, node_report};
+use crate::explained_talk::ExplainedTalk;
 use crate::jobs::{Job, JobEnd, perform_with};
+use crate::machine_files::MachineFiles;
 use crate::node_jobs::{NodeJob, node_inputs};
 use crate::noted::FileNode;
 use crate::refusals::{UsageText, fault_report};
 use crate::serving::Serves;
 use crate::shows::show_talk;
 use crate::slips::{OWN_CONTENTS, OWN_SOURCE};
-use crate::machine_files::MachineFiles;
-use crate::explained_talk::ExplainedTalk;
 use crate::work::Work;
 use job_config::configuration::Configuration;
 use job_config::contents_named::contents_paths;
@@ -83,7 +83,7 @@ pub struct Left<D> {
 fn leave_out<D: Desk + Drop>(desk: D, text: &str) -> Result<Left<D>, AllocError>
     ensures { IfOk result (λ left. IsLeftOut D.words desk left.end left.desk) }
 {
-    desk.tell(Ok(text))?;
+    desk.report(Ok(text))?;
     Ok(Left {
         desk,
         end: End::LeftOut,
@@ -156,7 +156,7 @@ fn refuse_output<D: Desk + Drop>(
     ensures { IfOk result (λ left. RefusesOutput D.words name.now desk left.end left.desk) }
 {
     let left = fail(alloc, desk, &Fault::CannotWrite(name))?;
-    left.desk.tell(Ok(why))?;
+    left.desk.report(Ok(why))?;
     Ok(left)
 }
 
@@ -175,7 +175,7 @@ fn end_job<D: Desk + Drop>(
             let reported = files.end_report(alloc, job, &end);
             let status = end.status;
             let desk = files.into_desk();
-            desk.tell(reported)?;
+            desk.report(reported)?;
             Ok(Left {
                 desk,
                 end: End::Ended(status),
@@ -381,7 +381,7 @@ fn refuse_node<D: Desk + Drop>(
     let (desk, noted) = files.into_parts();
     let left = fail(alloc, desk, &fault)?;
     let end = JobEnd::refused(fault);
-    left.desk.tell(end_report(alloc, job, &end, &noted))?;
+    left.desk.report(end_report(alloc, job, &end, &noted))?;
     Ok(left)
 }
 
@@ -422,7 +422,7 @@ fn talk_lines<D: Desk + Drop>(
     let done = live(alloc, words, &mut files, &mut talk, &mut place);
     let reported = node_report(alloc, &words.node, place.as_deref(), files.noted());
     let mut desk = files.into_desk();
-    desk.tell(reported)?;
+    desk.report(reported)?;
     let sent = desk.end_talk(talk.into_talk());
     end_talk(desk, done, &sent)
 }
@@ -445,7 +445,7 @@ fn talk_frames<D: Desk + Drop>(
     let done = live_frames(alloc, words, &mut files, &mut link, &mut place);
     let reported = node_report(alloc, &words.node, place.as_deref(), files.noted());
     let mut desk = files.into_desk();
-    desk.tell(reported)?;
+    desk.report(reported)?;
     let sent = desk.end_link(link);
     end_talk(desk, done, &sent)
 }
@@ -495,8 +495,8 @@ fn refuse<D: Desk + Drop>(
     match fault {
         UsageFault::Memory => Err(AllocError),
         UsageFault::Parse(_) | UsageFault::BadOption => {
-            desk.tell(Ok(UsageText::of(fault)))?;
-            desk.tell(fault_report(alloc, fault, words))?;
+            desk.report(Ok(UsageText::of(fault)))?;
+            desk.report(fault_report(alloc, fault, words))?;
             Ok(Left {
                 desk,
                 end: End::Ended(ExitStatus::Misused),

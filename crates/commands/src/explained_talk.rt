@@ -95,7 +95,7 @@ impl<'a, R: Eprint, T: Talk + Drop> ExplainedTalk<'a, R, T> {
     }
 
     /// Reports what the fault is that the last line of a text has, if it was not reported before.
-    fn tell(&mut self, text: &[u8])
+    fn report(&mut self, text: &[u8])
         ensures { self.new.talk ≡ self.old.talk }
     {
         if !may_report_fault(text) {
@@ -165,7 +165,7 @@ impl<R: Eprint, T: Talk + Drop> Talk for ExplainedTalk<'_, R, T> {
 
     fn send(&mut self, text: &[u8]) -> Result<(), Cannot> {
         let done = self.talk.send(text);
-        self.tell(text);
+        self.report(text);
         self.report_path();
         done
     }

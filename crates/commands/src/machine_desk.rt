@@ -164,7 +164,7 @@ impl<'a, R: rt::Files + Input + Print + Eprint + Threads + Wait + Sync> Desk
         Threaded::new(self.rt)
     }
 
-    fn tell<T: Display + Drop>(&self, reported: Result<T, AllocError>) -> Result<(), AllocError> {
+    fn report<T: Display + Drop>(&self, reported: Result<T, AllocError>) -> Result<(), AllocError> {
         if let Ok(text) = reported {
             let _ = self.rt.eprint(text);
         }

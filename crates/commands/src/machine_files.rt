@@ -8,7 +8,7 @@ ghost use Rattle.commands.specs.Notes.{maps_for, reads_dump};
 use crate::desk::Desk;
 use crate::ends::end_report;
 use crate::jobs::{Job, JobEnd};
-use crate::noted::{FileNode, MAX_TEXT, FileNotes, most_of};
+use crate::noted::{FileNode, FileNotes, MAX_TEXT, most_of};
 use job_config::sources::NodeSource;
 use job_parts::inputs::{Content, Inputs};
 use job_parts::status::ExitStatus;

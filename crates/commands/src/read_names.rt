@@ -6,7 +6,7 @@ ghost use Rattle.job_packets.specs.MadePackets.{file_of};
 ghost use Rattle.commands.specs.ReadNames.{place_name, source_name};
 
 use job_config::sources::NodeSource;
-use job_packets::orders::{Order, DataSource};
+use job_packets::orders::{DataSource, Order};
 use job_rehearse::places::PlaceWords;
 
 /// The names of the files that a work reads: at most three.

@@ -83,7 +83,12 @@ fn judge_of(
 }
 
 /// Whether a program ever lets a load of the smallest image pass.
-fn passes(alloc: Global, judge: &Accepted, asker: LoadInitiator, port: u8) -> Result<bool, AllocError>
+fn passes(
+    alloc: Global,
+    judge: &Accepted,
+    asker: LoadInitiator,
+    port: u8,
+) -> Result<bool, AllocError>
     requires { port < 32 }
 {
     let loader = LoadSender {

@@ -55,7 +55,7 @@ fn show_all<'a, T: Talk>(alloc: Global, talk: &mut T) -> Result<(), JobStop<'a>>
 }
 
 /// Sends the line of the fault that ended it.
-fn tell<T: Talk>(alloc: Global, fault: &Fault<'_>, talk: &mut T) -> Result<(), WriteFault>
+fn report<T: Talk>(alloc: Global, fault: &Fault<'_>, talk: &mut T) -> Result<(), WriteFault>
     ensures reported { OnOk result (T.sent talk.old (job_fault_line fault.now) talk.new) }
     ensures lost { IfErr result (λ _.
         T.unsent talk.old (job_fault_line fault.now) talk.new ⊎ (talk.new ≡ talk.old)) }
@@ -79,7 +79,7 @@ pub fn show_talk<T: Talk>(alloc: Global, talk: &mut T) -> Result<ExitStatus, Wri
         Ok(()) => Ok(ExitStatus::Done),
         Err(halt) => {
             let fault = halt.fault()?;
-            tell(alloc, &fault, talk)?;
+            report(alloc, &fault, talk)?;
             Ok(ExitStatus::Failed)
         }
     }

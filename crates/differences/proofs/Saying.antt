@@ -14,8 +14,8 @@ said true old new one other p own its = inl (record {
   its = its.line;
   own_alone = own.alone;
   its_alone = its.alone;
-  old_course = sym own.old_course ∙ its.old_course;
-  new_course = sym own.new_course ∙ its.new_course;
+  old_path = sym own.old_path ∙ its.old_path;
+  new_path = sym own.new_path ∙ its.new_path;
 })
 said false old new one other p own its = inr (record { own = own; its = its })
 

@@ -13,8 +13,8 @@ pub record IsSaidByBoth (old new : List Rule) (one other : List ChartLine) (p : 
   pub its : ChartLine
   pub own_alone : point_lines_of [] one p ≡ own ∷ []
   pub its_alone : point_lines_of [] other p ≡ its ∷ []
-  pub old_course : decision_path old own.point ≡ decision_path old its.point
-  pub new_course : decision_path new own.point ≡ decision_path new its.point
+  pub old_path : decision_path old own.point ≡ decision_path old its.point
+  pub new_path : decision_path new own.point ≡ decision_path new its.point
 
 -- it lies in no line of either
 pub record IsSaidByNone (one other : List ChartLine) (p : Point) : Type 0 where

@@ -22,7 +22,11 @@ pub struct AskedRule {
 /// # Errors
 ///
 /// Only if memory is refused.
-pub fn decision_path(alloc: Global, rules: &[Rule], point: &Point) -> Result<Vec<AskedRule>, AllocError>
+pub fn decision_path(
+    alloc: Global,
+    rules: &[Rule],
+    point: &Point,
+) -> Result<Vec<AskedRule>, AllocError>
     ensures { IfOk result (λ steps. steps.items ≡ steps_at rules.now point.now) }
 {
     let mut steps = Vec::new(alloc);

@@ -175,7 +175,13 @@ fn all_joined(
 const MOST_TESTED: usize = 4_000;
 
 /// Whether joined lines are fewer, not too many to be tested, and are a comparison of the tables.
-fn is_shorter(asked: &PointRegion, old: &[Rule], new: &[Rule], lines: &[ChartLine], made: &[ChartLine]) -> bool
+fn is_shorter(
+    asked: &PointRegion,
+    old: &[Rule],
+    new: &[Rule],
+    lines: &[ChartLine],
+    made: &[ChartLine],
+) -> bool
     ensures { MatchBool result
         (IsShorter asked.now old.now new.now lines.now made.now) (Unit {0}) }
 {

@@ -122,7 +122,11 @@ fn found_in(found: Option<u128>, ends: &[Span], old: &[Span], new: &[Span]) -> O
 /// # Errors
 ///
 /// Only if memory is refused.
-pub fn repeats_of(alloc: Global, old: &[AskedRule], new: &[AskedRule]) -> Result<Repeats, AllocError> {
+pub fn repeats_of(
+    alloc: Global,
+    old: &[AskedRule],
+    new: &[AskedRule],
+) -> Result<Repeats, AllocError> {
     let olds = spans(alloc, old)?;
     let news = spans(alloc, new)?;
     let (ones, others) = (olds.as_slice(), news.as_slice());

@@ -4,7 +4,7 @@ ghost use Rattle.std.specs.Prelude.{◌≡◌, [], IfOk};
 ghost use Rattle.doing.specs.Desks.{input_of};
 
 use crate::error_output::ErrorOutput;
-use commands::{FileCause, Desk, Files, HostLink, HostTalk, Nobody};
+use commands::{Desk, FileCause, Files, HostLink, HostTalk, Nobody};
 use folders::Folder;
 use std::alloc::{AllocError, Global};
 use std::fmt::Display;
@@ -133,7 +133,7 @@ impl<'a, 'b> Desk for PageDesk<'a, 'b> {
         Nobody
     }
 
-    fn tell<T: Display + Drop>(&self, reported: Result<T, AllocError>) -> Result<(), AllocError> {
+    fn report<T: Display + Drop>(&self, reported: Result<T, AllocError>) -> Result<(), AllocError> {
         let text = reported?;
         self.error_output.eprint(text).map_err(|_| AllocError)
     }

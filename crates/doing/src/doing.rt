@@ -50,6 +50,10 @@ pub fn do_words<'a>(
     let status = left.end.code();
     let (folder, out) = left.desk.into_parts();
     let reported = error_output.into_reported();
-    let done = Done { status, out, reported };
+    let done = Done {
+        status,
+        out,
+        reported,
+    };
     Ok(Left { done, folder })
 }

@@ -2,18 +2,18 @@
 //! (SSDTP2).
 #![tactic(auto)]
 
-mod received;
 mod faults;
 mod flags;
 mod heads;
 mod laws;
 mod reader;
+mod received;
 mod replies;
 
-pub use crate::received::Received;
 pub use crate::faults::FrameFault;
 pub use crate::flags::Flag;
-pub use crate::heads::{HEAD_LENGTH, FrameHead, take_head};
+pub use crate::heads::{FrameHead, HEAD_LENGTH, take_head};
 pub use crate::laws::frames_are_read;
 pub use crate::reader::FrameReader;
+pub use crate::received::Received;
 pub use crate::replies::reply_head;

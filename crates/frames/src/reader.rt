@@ -5,9 +5,9 @@ ghost use Rattle.frames.specs.Streams.{reading_after, received_in, keep_all, ont
 ghost use Rattle.frames.specs.Runs.{EndsPacket, EndsUnpacked, IsRun, in_run};
 ghost use Rattle.frames.specs.Reading.{after_end, received_of, first_reading, in_head, is_between};
 
-use crate::received::Received;
 use crate::flags::Flag;
 use crate::heads::{HEAD_LENGTH, take_head};
+use crate::received::Received;
 use arrayvec::ArrayVec;
 use spw::{Feed, without_path};
 use std::alloc::{AllocError, Global};

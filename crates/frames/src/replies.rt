@@ -5,7 +5,7 @@ ghost use Rattle.frames.specs.Heads.{head_bytes};
 ghost use Rattle.frames.specs.Streams.{reply_frame_of};
 
 use crate::flags::Flag;
-use crate::heads::{HEAD_LENGTH, FrameHead};
+use crate::heads::{FrameHead, HEAD_LENGTH};
 use spw::End;
 
 /// The head of the frame of a packet that ends in EOP with it.

@@ -17,7 +17,7 @@ use crate::codes::{DAMAGED, IS_OPEN, NO_MEMORY, NO_NODE, NO_ROOM, OK};
 use crate::handle::FramesHandle;
 use crate::held::{put_in, take_out};
 use crate::numbers::CameNumbers;
-use frames::{Flag, HEAD_LENGTH, FrameHead};
+use frames::{Flag, FrameHead, HEAD_LENGTH};
 use spw::{End, MAX_PACKET};
 use std::alloc::{AllocError, Global};
 

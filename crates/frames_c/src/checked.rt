@@ -60,7 +60,8 @@ impl CheckedFrames {
     pub fn is_whole(&self) -> bool
         ensures { result ≡ is_whole self.now }
     {
-        self.complement_of_left == complement_of_left(self.frames.left()) && self.sum == self.frames.state_sum()
+        self.complement_of_left == complement_of_left(self.frames.left())
+            && self.sum == self.frames.state_sum()
     }
 
     /// Takes bytes up to the first with which something came whole, or all of them if nothing does, and reports how

@@ -29,5 +29,7 @@ pub fn read_code(increment: bool) -> u8
 pub fn write_code(verify: bool, reply: bool, increment: bool) -> u8
     ensures { result ≡ write_code verify reply increment }
 {
-    8 + 4 * instruction_bit_of(verify) + 2 * instruction_bit_of(reply) + instruction_bit_of(increment)
+    8 + 4 * instruction_bit_of(verify)
+        + 2 * instruction_bit_of(reply)
+        + instruction_bit_of(increment)
 }

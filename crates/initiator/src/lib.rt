@@ -11,9 +11,9 @@ mod codes;
 mod laws;
 mod loads;
 mod no_reply;
+mod packet_form;
 mod reply_view;
 mod requests;
-mod packet_form;
 mod write;
 
 pub use codes::{RMW_CODE, read_code, rmw_code_is_its_own, write_code};
@@ -22,8 +22,8 @@ pub use laws::{
 };
 pub use loads::{PART_SIZE, control_body, control_request, part_of, result_request, stage_request};
 pub use no_reply::NoReply;
+pub use packet_form::PacketForm;
 pub use reply_view::Reply;
 pub use requests::Request;
 pub use rmap::LAST_SLOT;
-pub use packet_form::PacketForm;
 pub use write::{CommandFields, DATA_OVERHEAD, body_with_crc, write_command};

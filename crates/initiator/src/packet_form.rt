@@ -62,7 +62,10 @@ fn other<'a>(bytes: &'a [u8], reason: Discard) -> PacketForm<'a>
     let rest = without_path(bytes);
     if !has_reply_type(rest) {
         let discard_fault = DiscardFault::of(bytes, reason);
-        return PacketForm::Discarded { reason, discard_fault };
+        return PacketForm::Discarded {
+            reason,
+            discard_fault,
+        };
     }
     let path = &bytes[..bytes.len() - rest.len()];
     let instruction = Instruction(rest[2]);

@@ -17,7 +17,7 @@ ghost use Rattle.job_parts.specs.declared.faults.Fault.TheVariants.{NoMemory};
 use crate::asking::{ChartScope, asking_arguments, asking_of};
 use crate::places::places;
 use crate::{markdown, plain};
-use chart_lines::{AskedRules, PORTS, ChartRow, Tables, difference_rows};
+use chart_lines::{AskedRules, ChartRow, PORTS, Tables, difference_rows};
 use charts::first_difference;
 use clap::{ArgMatches, Command};
 use job_decide::node_windows::own_windows;
@@ -258,7 +258,11 @@ fn plain_text(alloc: Global, windows: &Windows, rows: &[ChartRow]) -> Result<Str
 }
 
 /// A table of these rows in markdown.
-fn markdown_text(alloc: Global, windows: &Windows, rows: &[ChartRow]) -> Result<String, AllocError> {
+fn markdown_text(
+    alloc: Global,
+    windows: &Windows,
+    rows: &[ChartRow],
+) -> Result<String, AllocError> {
     let mut text = String::from_str(alloc, markdown::COMPARISON_HEAD)?;
     for row in rows {
         markdown::add_difference(&mut text, alloc, windows, row)?;

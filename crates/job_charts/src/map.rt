@@ -17,7 +17,7 @@ ghost use Rattle.job_parts.specs.declared.faults.Fault.TheVariants.{NoMemory};
 
 use crate::asking::{ChartScope, asking_arguments, asking_of};
 use crate::{markdown, notes, plain};
-use chart_lines::{Note, ChartRow, map_rows, never_matching};
+use chart_lines::{ChartRow, Note, map_rows, never_matching};
 use clap::{ArgMatches, Command};
 use job_decide::tables::{NoTable, print_table_fault, text_and_table};
 use job_parts::arguments::{file, flag, is_flag_set, name_of, option, text_of};

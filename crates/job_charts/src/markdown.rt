@@ -158,7 +158,12 @@ pub fn add_map_row(
     text.push_str("| ")?;
     add_front(text, alloc, row)?;
     add_asks(text, row.reported().decision_path())?;
-    add_cell(text, Column::Comment, comments, row.reported().decision_path())?;
+    add_cell(
+        text,
+        Column::Comment,
+        comments,
+        row.reported().decision_path(),
+    )?;
     text.push_str(" |\n")
 }
 
@@ -181,7 +186,7 @@ pub fn add_difference(
     text.push_str(" | ")?;
     add_front(text, alloc, row)?;
     add_asks(text, row.reported().decision_path())?;
-    add_asks(text, row.reported().new_course())?;
+    add_asks(text, row.reported().new_path())?;
     text.push_str(" | ")?;
     add_packet(text, alloc, windows, row.ports(), &change)?;
     text.push_str(" |\n")

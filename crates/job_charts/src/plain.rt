@@ -2,8 +2,8 @@
 
 use crate::packets::add_packet;
 use crate::words::{add_ports, add_words};
-use chart_lines::{PORTS, ChartRow};
-use differences::{Sign, AskedRule};
+use chart_lines::{ChartRow, PORTS};
+use differences::{AskedRule, Sign};
 use rmap::Windows;
 use std::alloc::{AllocError, Global};
 
@@ -75,7 +75,7 @@ pub fn add_difference(
     text.push_str("\n    old ")?;
     add_path(text, row.reported().decision_path())?;
     text.push_str("\n    new ")?;
-    add_path(text, row.reported().new_course())?;
+    add_path(text, row.reported().new_path())?;
     text.push_str("\n    ")?;
     add_packet(text, alloc, windows, row.ports(), &change)?;
     text.push_str("\n")

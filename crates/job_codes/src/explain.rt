@@ -9,7 +9,7 @@ ghost use Rattle.job_parts.specs.Stops.{StopsBy};
 ghost use Rattle.job_codes.specs.Topics.{IsCode};
 ghost use Rattle.job_parts.specs.declared.faults.Fault.TheVariants.{NoMemory};
 
-use crate::topics::{TopicCode, CodeKind, KINDS, Topic, read_code};
+use crate::topics::{CodeKind, KINDS, Topic, TopicCode, read_code};
 use clap::{ArgMatches, Command};
 use job_parts::arguments::{optional, text_of};
 use job_parts::printing::{print_indented, print_text};
@@ -71,7 +71,12 @@ pub fn explain_job(alloc: Global, found: &ArgMatches) -> Result<ExplainWords, Us
 }
 
 /// Adds the line of a code, and what it is.
-fn add_title(text: &mut String, alloc: Global, code: TopicCode, topic: Topic) -> Result<(), AllocError> {
+fn add_title(
+    text: &mut String,
+    alloc: Global,
+    code: TopicCode,
+    topic: Topic,
+) -> Result<(), AllocError> {
     let word = code.kind.word();
     let number = code.number;
     let title = topic.title(alloc)?;

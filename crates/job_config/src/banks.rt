@@ -11,7 +11,7 @@ ghost use Rattle.toml.specs.View.{items_view, table_view, view};
 use crate::faults::ConfigFault;
 use crate::numbers::number_at_key;
 use crate::own_node::OWN_BANK;
-use crate::places::{TableKind, NumberKey, TablePlace};
+use crate::places::{NumberKey, TableKind, TablePlace};
 use crate::tables::{list_at, table_in};
 use bank::{MAX_ROOM, MAX_SIZE};
 use node_parts::BankConfig;

@@ -5,7 +5,7 @@ ghost use Rattle.job_config.specs.ContentsNamed.{AreContentsPaths, ArePathsIn, I
 ghost use Rattle.toml.specs.View.{items_view, view};
 
 use crate::names::beside;
-use crate::places::{TableKind, NameKey};
+use crate::places::{NameKey, TableKind};
 use crate::tables::{held, list_at};
 use std::alloc::{AllocError, Global};
 use toml::Value;

@@ -8,7 +8,7 @@ use crate::faults::{ConfigFault, NameWord};
 use crate::maps::configured_kind_of;
 use crate::numbers::{number_at_key, number_or};
 use crate::own_node::{LEAST_ADDRESS, MOST_ADDRESS, NODE_ADDRESS};
-use crate::places::{TableKind, NumberKey, TablePlace};
+use crate::places::{NumberKey, TableKind, TablePlace};
 use crate::reading::{contents_in, first_program, image_in, slot_in};
 use crate::tables::{OWN, held, list_at, table_in};
 use bank::MAX_ROOM;
@@ -74,7 +74,12 @@ impl<'a> Faults<'a> {
     }
 
     /// Adds each key that a table may not have, by the bytes of keys.
-    fn note_table(&mut self, alloc: Global, table: &Table, place: TablePlace) -> Result<(), AllocError> {
+    fn note_table(
+        &mut self,
+        alloc: Global,
+        table: &Table,
+        place: TablePlace,
+    ) -> Result<(), AllocError> {
         for (key, _value) in table.iter() {
             if !place.kind.knows(key.as_str()) {
                 let key = NameWord::new(alloc, key.as_str())?;
@@ -85,7 +90,12 @@ impl<'a> Faults<'a> {
     }
 
     /// Adds each key that a table of a list may not have.
-    fn note_tables(&mut self, alloc: Global, list: &[Value], kind: TableKind) -> Result<(), AllocError> {
+    fn note_tables(
+        &mut self,
+        alloc: Global,
+        list: &[Value],
+        kind: TableKind,
+    ) -> Result<(), AllocError> {
         for number in 0..list.len() {
             if let Some(table) = list[number].as_table() {
                 self.note_table(alloc, table, TablePlace { kind, number })?;
@@ -95,7 +105,12 @@ impl<'a> Faults<'a> {
     }
 
     /// Adds each key that a table of a kind may not have.
-    fn note_kind(&mut self, alloc: Global, table: &Table, kind: TableKind) -> Result<(), AllocError> {
+    fn note_kind(
+        &mut self,
+        alloc: Global,
+        table: &Table,
+        kind: TableKind,
+    ) -> Result<(), AllocError> {
         let Some(value) = held(table, kind.word()) else {
             return Ok(());
         };

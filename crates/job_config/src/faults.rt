@@ -4,7 +4,7 @@ ghost use Rattle.std.specs.Prelude.{◌≡◌, IfOk};
 ghost use Rattle.job_config.specs.Faults.{code_of_fault, kind_code, name_code, number_fault_code};
 ghost use Rattle.job_config.specs.declared.faults.ConfigFault.TheVariants.{Memory};
 
-use crate::places::{TableKind, NameKey, NumberKey, TablePlace};
+use crate::places::{NameKey, NumberKey, TableKind, TablePlace};
 use bpf::ImageFault;
 use bver::Refused;
 use job_parts::node_codes::NodeCode;
@@ -286,9 +286,17 @@ fn print_unknown<W: fmt::Write>(
 }
 
 /// Prints that there are too many tables of a kind, or too few.
-fn print_count<W: fmt::Write>(f: &mut fmt::Formatter<W>, kind: TableKind, count: usize) -> fmt::Result {
+fn print_count<W: fmt::Write>(
+    f: &mut fmt::Formatter<W>,
+    kind: TableKind,
+    count: usize,
+) -> fmt::Result {
     let (word, wanted) = (kind.word(), wanted(kind));
-    let plural = if kind == TableKind::Publish { "es" } else { "s" };
+    let plural = if kind == TableKind::Publish {
+        "es"
+    } else {
+        "s"
+    };
     write!(f, "{count} {word}{plural}: wanted {wanted}")
 }
 

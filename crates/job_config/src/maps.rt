@@ -9,7 +9,7 @@ ghost use Rattle.toml.specs.View.{items_view, table_view, view};
 
 use crate::faults::ConfigFault;
 use crate::numbers::number_at_key;
-use crate::places::{TableKind, NumberKey, TablePlace};
+use crate::places::{NumberKey, TableKind, TablePlace};
 use crate::tables::{held, list_at, table_in};
 use bver::MapSizes;
 use machine::{MAX_CELLS, MAX_MAPS, MapKind};

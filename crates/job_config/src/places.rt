@@ -38,7 +38,10 @@ impl TableKind {
     {
         match self {
             TableKind::Node => is_node_key(key),
-            TableKind::Bank => key == "base" || key == "contents" || key == "journal" || key == "size",
+            TableKind::Bank => key == "base"
+                || key == "contents"
+                || key == "journal"
+                || key == "size",
             TableKind::Map => key == "cells" || key == "peak",
             TableKind::Publish => key == "image" || key == "slot",
         }

@@ -23,11 +23,11 @@ ghost use Rattle.toml.specs.View.{items_view, table_view, view};
 
 use crate::configuration::{Configuration, configuration_of};
 use crate::every_fault::Faults;
-use crate::faults::{ConfigFault, Trouble, NameWord};
+use crate::faults::{ConfigFault, NameWord, Trouble};
 use crate::names::{beside, name_at, name_of_contents};
 use crate::numbers::number_at_key;
 use crate::own_node::{Contents, OwnNode};
-use crate::places::{TableKind, NameKey, NumberKey, TablePlace};
+use crate::places::{NameKey, NumberKey, TableKind, TablePlace};
 use crate::tables::{OWN, list_at, table_in};
 use bpf::{Image, ImageFault};
 use bver::{Accepted, MapSizes, Refusal, verify};

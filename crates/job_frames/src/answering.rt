@@ -9,7 +9,7 @@ ghost use Rattle.job_parts.specs.Printed.{Prints};
 ghost use Rattle.scrub.specs.Guarded.{is_damaged};
 
 use crate::faults::print_fault;
-use frames::{Received, FrameFault, HEAD_LENGTH, reply_head};
+use frames::{FrameFault, HEAD_LENGTH, Received, reply_head};
 use job_live::answering::{CODE, hand_out, make_room};
 use job_live::entries::{put_left, text_room_of, turn_left};
 use job_live::putting::{put, put_discard_code};

@@ -14,7 +14,7 @@ use job_parts::faults::Fault;
 use job_parts::status::ExitStatus;
 use job_parts::stops::{JobStop, WriteFault};
 use job_parts::storage::Files;
-use linking::{LinkEnd, Link, hold};
+use linking::{Link, LinkEnd, hold};
 use std::alloc::Global;
 use std::io::Write;
 
@@ -72,7 +72,7 @@ fn report_end<'a, L: Link>(
     let Ok(text) = answering.end(is_whole) else {
         return Err(JobStop::Ended(Fault::NoMemory));
     };
-    match link.tell(text.as_slice()) {
+    match link.report(text.as_slice()) {
         Ok(()) => Ok(()),
         Err(_) => Err(JobStop::Unwritten(WriteFault)),
     }
@@ -114,14 +114,14 @@ fn hold_on<'a, F: Files, L: Link>(
 }
 
 /// Reports the fault that cut a link off. If memory is refused to its line, it reports that there is none.
-fn tell<L: Link>(alloc: Global, fault: &Fault<'_>, link: &mut L) -> Result<(), WriteFault>
+fn report<L: Link>(alloc: Global, fault: &Fault<'_>, link: &mut L) -> Result<(), WriteFault>
     ensures reported { OnOk result (SendsLast L.reported fault.now link.old link.new) }
     ensures lost { IfErr result (λ _. SendsLast L.unreported fault.now link.old link.new) }
 {
     let mut text = Vec::new(alloc);
     let reported = match writeln!(text, "{fault}") {
-        Ok(()) => link.tell(text.as_slice()),
-        Err(_) => link.tell(NO_MEMORY),
+        Ok(()) => link.report(text.as_slice()),
+        Err(_) => link.report(NO_MEMORY),
     };
     reported.map_err(|_| WriteFault)
 }
@@ -170,7 +170,7 @@ pub fn live_frames<F: Files, L: Link>(
         Ok(is_whole) => Ok(link_status_of(is_whole, link.has_lost())),
         Err(halt) => {
             let fault = halt.fault()?;
-            tell(alloc, &fault, link)?;
+            report(alloc, &fault, link)?;
             *place = place_of(fault);
             Ok(ExitStatus::Failed)
         }

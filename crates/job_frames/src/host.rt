@@ -92,7 +92,7 @@ impl<I: Read + Drop, W: Write + Drop, E: Write + Drop> Link for HostLink<I, W, E
         }
     }
 
-    fn tell(&mut self, text: &[u8]) -> Result<(), CannotTransfer> {
+    fn report(&mut self, text: &[u8]) -> Result<(), CannotTransfer> {
         match write_through(&mut self.errors, text) {
             Ok(()) => Ok(()),
             Err(_) => {

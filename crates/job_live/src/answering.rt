@@ -18,7 +18,7 @@ use crate::journals::{print_bank, print_journals, turn_journals};
 use crate::putting::{MOST_OF_PACKET, put, put_code, put_served};
 use crate::scrub_lines::{MOST_OF_SCRUB, put_found};
 use crate::settings::{Setting, read_setting};
-use job_nodes::live_node::{LiveNode, LineResult};
+use job_nodes::live_node::{LineResult, LiveNode};
 use job_parts::bad_lines::BadLine;
 use job_parts::faults::Fault;
 use rmap::MAX_REPLY;

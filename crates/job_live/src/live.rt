@@ -84,7 +84,11 @@ fn hold<'a, T: Talk>(
 }
 
 /// Sends the last text of a talk after its last line: the entries of the journals, which are handed out.
-fn send_end<'a, T: Talk>(alloc: Global, node: &mut LiveNode, talk: &mut T) -> Result<(), JobStop<'a>>
+fn send_end<'a, T: Talk>(
+    alloc: Global,
+    node: &mut LiveNode,
+    talk: &mut T,
+) -> Result<(), JobStop<'a>>
     ensures sent { OnOk result (SendsEnd T.sent node.old node.new talk.old talk.new) }
     ensures stops { IfErr result (IsEndUnsent T.unsent node.old node.new talk.old talk.new) }
 {

@@ -5,7 +5,7 @@ ghost use Rattle.std.specs.Vec.{vec_capacity, vec_len};
 ghost use Rattle.job_live.specs.ScrubLines.{found_text, scrub_line};
 
 use crate::putting::{put, put_port};
-use scrub::{ScrubFindings, Health};
+use scrub::{Health, ScrubFindings};
 
 /// How many bytes the longest line of a scrub has: `journal scrub SLOT withdrawn`, with a slot of three digits.
 pub const MOST_OF_SCRUB: usize = 28;

@@ -10,7 +10,7 @@ use crate::feeds::Feeds;
 use crate::node::JobNode;
 use job_parts::bad_lines::BadLine;
 use rmap::MAX_REPLY;
-use scrub::{ServedAnswer, GuardedNode};
+use scrub::{GuardedNode, ServedAnswer};
 use single_node::SingleNode;
 use spw::Packet;
 use std::alloc::Global;

@@ -7,7 +7,7 @@ ghost use Rattle.job_packets.specs.MadePackets.{IsContent, IsMade, IsNotMade, Ma
 ghost use Rattle.job_packets.specs.Requests.{has_reply_address, request_line_of};
 
 use crate::loads::add_loads;
-use crate::orders::{Order, DataSource};
+use crate::orders::{DataSource, Order};
 use crate::packet::PacketWords;
 use crate::packet_options::HeaderWords;
 use crate::requests::add_line;

@@ -8,7 +8,7 @@ ghost use Rattle.job_packets.specs.MadePackets.{file_of};
 ghost use Rattle.job_packets.specs.PacketJob.{NamesPacket, RefusesPacket, packet_app, with_order_options, with_order_words};
 ghost use Rattle.job_packets.specs.Slips.{IsWordFault};
 
-use crate::orders::{Order, DataSource, order_of};
+use crate::orders::{DataSource, Order, order_of};
 use crate::packet_options::{HeaderWords, field_arguments, header_words};
 use crate::slips::PacketFault;
 use clap::{ArgMatches, Command};

@@ -4,7 +4,7 @@ use Rattle.std.specs.Prelude.{slice_index_or, zip}
 use Rattle.std.proofs.lemmas.List.{get_or-map, length-map, length-replicate}
 use Rattle.std.proofs.lemmas.List.FromFn.{get_or-map-range_with_len, length-map-range_with_len}
 use base.Stored.{Gv}
-use Rattle.annals.specs.declared.deed.Link.{Link}
+use Rattle.annals.specs.declared.deed.HistoryEntry.{HistoryEntry}
 use Rattle.bver.specs.Justified.{AcceptedValue}
 use Rattle.cells.specs.Seats.{CellsValue, cells}
 use Rattle.machine.specs.Sizes.{Maps}
@@ -24,20 +24,20 @@ use Rattle.job_config.specs.OwnNodes.{IsConfigOf, OwnNodeValue}
 use Rattle.job_ports.specs.Queues.{AreFilled, IsDesk, IsDeskWorker, IsOwnDesk, new_worker}
 use Rattle.job_ports.specs.Starts.{SetsAll, first_standing}
 
-worker_at : {J : Type 0} (known : List Link) (passes : List PortPass) (serves : List ServePass) (k : ℕ) (pass : PortPass) (serve : ServePass) (worker : Worker J SinkValue) → k < length passes → k < length serves
+worker_at : {J : Type 0} (known : List HistoryEntry) (passes : List PortPass) (serves : List ServePass) (k : ℕ) (pass : PortPass) (serve : ServePass) (worker : Worker J SinkValue) → k < length passes → k < length serves
     → slice_index_or (map (new_worker known) (zip passes serves)) k worker ≡ new_worker known (slice_index_or passes k pass, slice_index_or serves k serve)
 worker_at known [] serves k pass serve worker low few = absurd (omega (arith, low))
 worker_at known (p ∷ passes) [] k pass serve worker low few = absurd (omega (arith, few))
 worker_at known (p ∷ passes) (s ∷ serves) zero pass serve worker low few = refl
 worker_at known (p ∷ passes) (s ∷ serves) (suc k) pass serve worker low few = worker_at known passes serves k pass serve worker (omega (arith, low)) (omega (arith, few))
 
-workers_count : (J : Type 0) (known : List Link) (passes : List PortPass) (serves : List ServePass) → length passes ≡ length serves → length (map (new_worker {J = J} known) (zip passes serves)) ≡ length passes
+workers_count : (J : Type 0) (known : List HistoryEntry) (passes : List PortPass) (serves : List ServePass) → length passes ≡ length serves → length (map (new_worker {J = J} known) (zip passes serves)) ≡ length passes
 workers_count J known [] [] same = refl
 workers_count J known [] (s ∷ serves) same = absurd (omega (arith, same))
 workers_count J known (p ∷ passes) [] same = absurd (omega (arith, same))
 workers_count J known (p ∷ passes) (s ∷ serves) same = ap (λ n. suc n) (workers_count J known passes serves (omega (arith, same)))
 
-module _ {J : Type 0} {own : OwnNodeValue} (program : AcceptedValue) (publishes : List (ℕ × AcceptedValue)) {config : NodeConfig} (home : Gv) (known : List Link) {by_port : List (List Cargo)} {banks : ℕ} {queues : List Port} {puts : List PutPass}
+module _ {J : Type 0} {own : OwnNodeValue} (program : AcceptedValue) (publishes : List (ℕ × AcceptedValue)) {config : NodeConfig} (home : Gv) (known : List HistoryEntry) {by_port : List (List Cargo)} {banks : ℕ} {queues : List Port} {puts : List PutPass}
     {serves : List ServePass} {passes : List PortPass} {workers : List (Worker J SinkValue)} (is_config : IsConfigOf own config) (count : length by_port ≡ own.ports) (many : banks ≡ length config.banks.now)
     (filled : AreFilled by_port queues puts serves) (passes_are : passes ≡ unasked (informed_passes config program publishes home)) (workers_are : workers ≡ map (new_worker known) (zip passes serves)) where
   abbrev firsts : List PassValue
@@ -89,7 +89,7 @@ module _ {J : Type 0} {own : OwnNodeValue} (program : AcceptedValue) (publishes 
   }
 
 -- The node of the configuration before the first packet.
-pub own_desk : {J : Type 0} (own : OwnNodeValue) (program : AcceptedValue) (publishes : List (ℕ × AcceptedValue)) (config : NodeConfig) (it : CellsValue) (known : List Link) (by_port : List (List Cargo)) (banks : ℕ) (queues : List Port)
+pub own_desk : {J : Type 0} (own : OwnNodeValue) (program : AcceptedValue) (publishes : List (ℕ × AcceptedValue)) (config : NodeConfig) (it : CellsValue) (known : List HistoryEntry) (by_port : List (List Cargo)) (banks : ℕ) (queues : List Port)
     (puts : List PutPass) (workers : List (Worker J SinkValue)) → program.sizes ≡ own.sizes → publishes ≡ own.publishes → own.ports ≤ 32 → it ≡ cells config.sizes it.home (256 - config.ports) []
     → IsConfigOf own config → SetsAll own.banks own.contents (length own.banks) [] known
     → IsDesk (first_standing config program publishes it.home known) own.ports by_port banks queues puts workers

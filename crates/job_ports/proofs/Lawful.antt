@@ -5,7 +5,7 @@ use Rattle.std.proofs.lemmas.Bool.{leb-true, and_parts}
 use Rattle.std.proofs.lemmas.List.{length-replicate}
 use mathlib.Core.List.{IsPrefix}
 use base.Stored.{Gv}
-use Rattle.annals.specs.declared.deed.Link.{Link}
+use Rattle.annals.specs.declared.deed.HistoryEntry.{HistoryEntry}
 use Rattle.annals.specs.Chains.{done_for}
 use Rattle.bank.specs.Limits.{is_ports}
 use Rattle.bank.specs.Records.{first_share}
@@ -62,7 +62,7 @@ unnumbered (suc count) port zero = refl
 unnumbered (suc count) port (suc k) = unnumbered count port k
 
 -- A port that starts as the node of the configuration has it before the first packet is fresh.
-fresh_first : (own : OwnNodeValue) (program : AcceptedValue) (config : NodeConfig) (home : Gv) (known : List Link) (port : ℕ) → IsConfigOf own config → program.sizes ≡ own.sizes → port < own.ports
+fresh_first : (own : OwnNodeValue) (program : AcceptedValue) (config : NodeConfig) (home : Gv) (known : List HistoryEntry) (port : ℕ) → IsConfigOf own config → program.sizes ≡ own.sizes → port < own.ports
     → IsFreshPort (own_schedule own program.program) (first_standing config program own.publishes home known port)
 fresh_first own program config home known port is_config sizes low = record {
   there = low;
@@ -92,7 +92,7 @@ module _ {J : Type 0} {own : OwnNodeValue} {program : AcceptedValue} {by_port : 
   module _ (left : List (Worker J SinkValue)) (total : Report) (served : HaveServed sent failed banks queues workers left total) (accounts : ℕ → Account)
       (are : AreAccountsOf desk.starts own.ports (λ port. slice_index_or by_port port []) (ends_of left served.reports) accounts)
       (full : IsServedInFull n (programs_with program own.publishes) accounts served.history.whole) where
-    abbrev whole : List Link
+    abbrev whole : List HistoryEntry
     whole = served.history.whole
 
     left_count : length left ≡ own.ports
@@ -161,7 +161,7 @@ module _ {J : Type 0} {own : OwnNodeValue} {program : AcceptedValue} {by_port : 
       })
 
 -- The same over the packets of each port among those of the lines.
-pub law_by_packets : (own : OwnNodeValue) (program : AcceptedValue) (starts : ℕ → Standing) (packets : List (ℕ × Cargo)) (by_port : List (List Cargo)) (ends : List PortEnd) (log : List Link)
+pub law_by_packets : (own : OwnNodeValue) (program : AcceptedValue) (starts : ℕ → Standing) (packets : List (ℕ × Cargo)) (by_port : List (List Cargo)) (ends : List PortEnd) (log : List HistoryEntry)
     → AreByPort own.ports packets by_port → IsOneLawfulHistory own program starts (λ port. slice_index_or by_port port []) ends log
     → IsOneLawfulHistory own program starts (λ port. packets_at port packets) ends log
 law_by_packets own program starts packets by_port ends log sorted law = λ accounts are full.

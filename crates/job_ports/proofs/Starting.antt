@@ -4,7 +4,7 @@ use Rattle.std.specs.Prelude.{◌&&◌, nat_le, slice_index_or}
 use Rattle.std.specs.List.{list_all}
 use Rattle.std.proofs.lemmas.Bool.{and_parts, le-leb, leb-true}
 use Rattle.std.proofs.lemmas.List.{length-map, length-replicate}
-use Rattle.annals.specs.declared.deed.Link.{Link}
+use Rattle.annals.specs.declared.deed.HistoryEntry.{HistoryEntry}
 use Rattle.bank.specs.Records.{BankValue, covers, extent_of}
 use Rattle.node_parts.specs.Nodes.{are_within, bank_of, is_within, range_of}
 use Rattle.node_parts.specs.declared.config.BankConfig.{BankConfig}
@@ -24,7 +24,7 @@ same_at (y ∷ xs) zero x e d low is = is
 same_at (y ∷ xs) (suc k) x e d low is = same_at xs k x e d (omega (arith, low)) is
 
 -- one bank more
-pub sets_more : (banks : List BankConfig) (contents : List (List ℕ)) (k place : ℕ) (d : BankConfig) (bytes : List ℕ) (a b c : List Link) → k < length banks → place ≡ k
+pub sets_more : (banks : List BankConfig) (contents : List (List ℕ)) (k place : ℕ) (d : BankConfig) (bytes : List ℕ) (a b c : List HistoryEntry) → k < length banks → place ≡ k
     → bytes ≡ slice_index_or contents place [] → SetsAll banks contents k a b → SetsFirst k (get_or banks place d).base bytes b c → SetsAll banks contents (k + 1) a c
 sets_more banks contents k place d bytes a b c low at own all one =
     let same : suc k ≡ k + 1 = omega arith in
@@ -41,10 +41,10 @@ fit_count (b ∷ bs) [] is = absurd (cc is)
 fit_count (b ∷ bs) (c ∷ cs) is = ap (λ n. suc n) (fit_count bs cs (and_parts (nat_le (length c) b.size) (fit bs cs) is).1)
 
 -- what banks begin with, over equal lists
-pub sets_own : (banks shown : List BankConfig) (contents reported : List (List ℕ)) (known reached : List Link) → shown ≡ banks → reported ≡ contents → known ≡ []
+pub sets_own : (banks shown : List BankConfig) (contents reported : List (List ℕ)) (known reached : List HistoryEntry) → shown ≡ banks → reported ≡ contents → known ≡ []
     → SetsAll shown reported (length shown) known reached → SetsAll banks contents (length banks) [] reached
 sets_own banks shown contents reported known reached same also none all =
-    subst (λ (k : List Link). SetsAll banks contents (length banks) k reached) none
+    subst (λ (k : List HistoryEntry). SetsAll banks contents (length banks) k reached) none
     (subst (λ (l : List (List ℕ)). SetsAll banks l (length banks) known reached) also (subst (λ (l : List BankConfig). SetsAll l reported (length l) known reached) same all))
 
 -- ---- where banks are

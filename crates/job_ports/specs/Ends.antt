@@ -1,6 +1,6 @@
 -- What became of a port.
 use Rattle.std.specs.Prelude.{List}
-use Rattle.annals.specs.declared.deed.Link.{Link}
+use Rattle.annals.specs.declared.deed.HistoryEntry.{HistoryEntry}
 use Rattle.ports.specs.Sinks.{SinkValue}
 use Rattle.ports.specs.declared.worker.Report.{Report}
 use Rattle.target.specs.Passes.{PortPass}
@@ -9,6 +9,6 @@ use Rattle.target.specs.Passes.{PortPass}
 -- banks. Besides, its replies, and the report of its worker
 pub record PortEnd : Type 0 where
   pub pass : PortPass
-  pub front : List Link
+  pub front : List HistoryEntry
   pub sink : SinkValue
   pub report : Report

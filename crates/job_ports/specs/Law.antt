@@ -1,6 +1,6 @@
 -- What the law on threads says of the ports that were served.
 use Rattle.std.specs.Prelude.{◌≡◌, ◌<◌, ◌≤◌, ℕ, List, [], map, slice_get, slice_index_or, Some}
-use Rattle.annals.specs.declared.deed.Link.{Link}
+use Rattle.annals.specs.declared.deed.HistoryEntry.{HistoryEntry}
 use Rattle.annals.specs.Chains.{done_for, instrument}
 use Rattle.bver.specs.Justified.{AcceptedValue}
 use Rattle.node_parts.specs.declared.config.BankConfig.{BankConfig}
@@ -35,7 +35,7 @@ pub record IsInFull (n : Node) (account : Account) : Type 0 where
 
 -- what the law asks for beyond what the ports did: nothing was missing, and the list of the node has only entries of
 -- each bank. It has of others than the ports only that the instrument published these programs
-pub record IsServedInFull (n : Node) (programs : List Publish) (accounts : ℕ → Account) (whole : List Link) : Type 0 where
+pub record IsServedInFull (n : Node) (programs : List Publish) (accounts : ℕ → Account) (whole : List HistoryEntry) : Type 0 where
   pub each : (port : ℕ) → port < n.ports → IsInFull n (accounts port)
   pub banks : (k : ℕ) (bank : BankConfig) → slice_get n.banks k ≡ Some bank → IsBankOfPorts k bank whole
   pub opening : done_for instrument whole ≡ map published_first programs
@@ -44,7 +44,7 @@ pub record IsServedInFull (n : Node) (programs : List Publish) (accounts : ℕ �
 -- by any accounts of what the ports did, what they did is a lawful history of the node's schedules, apart from what
 -- cells answered. The conditions are that nothing was missing, and that the list has nothing else
 abbrev pub IsOneLawfulHistory : OwnNodeValue → AcceptedValue → (starts : ℕ → Standing) (packets : ℕ → List Cargo) → List PortEnd
-    → (whole : List Link) → Type 0
+    → (whole : List HistoryEntry) → Type 0
 IsOneLawfulHistory own program starts packets ends whole =
     (accounts : ℕ → Account) → AreAccountsOf starts own.ports packets ends accounts
     → IsServedInFull (own_schedule own program.program) (programs_with program own.publishes) accounts whole

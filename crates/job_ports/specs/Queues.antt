@@ -1,6 +1,6 @@
 -- Packets that wait in the queues of ports, and the workers that serve them.
 use Rattle.std.specs.Prelude.{◌≡◌, ◌<◌, ◌≤◌, ◌-◌, ℕ, List, [], ◌∷◌, ◌++◌, length, map, slice_index_or}
-use Rattle.annals.specs.declared.deed.Link.{Link}
+use Rattle.annals.specs.declared.deed.HistoryEntry.{HistoryEntry}
 use Rattle.bver.specs.Justified.{AcceptedValue}
 use Rattle.cells.specs.Seats.{CellsValue, cells}
 use Rattle.spw.specs.Cargo.{Cargo}
@@ -52,7 +52,7 @@ pub record AreFilled (by_port : List (List Cargo)) (ports : List Port) (put_pass
 
 -- a worker with what its port has of the node, and with what takes from the port's queue. It knows this of the history
 -- of the node's banks, and its sink has taken nothing
-abbrev pub new_worker : {J : Type 0} → (known : List Link) → PortPass × ServePass → Worker J SinkValue
+abbrev pub new_worker : {J : Type 0} → (known : List HistoryEntry) → PortPass × ServePass → Worker J SinkValue
 new_worker known parts = record { pass = parts.0; front = known; serve_pass = parts.1; sink = no_replies }
 
 -- the worker has and knows that, takes from that queue, and has a share of each of `banks` banks; its sink has taken

@@ -3,7 +3,7 @@ use Rattle.std.specs.Prelude.{◌≡◌, ◌⊎◌, ◌<◌, ℕ, List, [], ◌+
 use Rattle.std.specs.Io.KnownBytes.{Appends}
 use Rattle.std.specs.Str.{IsUtf8}
 use mathlib.Core.List.{IsPrefix}
-use Rattle.annals.specs.declared.deed.Link.{Link}
+use Rattle.annals.specs.declared.deed.HistoryEntry.{HistoryEntry}
 use Rattle.bver.specs.Justified.{AcceptedValue}
 use Rattle.spw.specs.Cargo.{Cargo}
 use Rattle.spw.specs.Line.{lines_of}
@@ -40,7 +40,7 @@ EndsSo start packets end =
 
 -- what the ports know of the history of the node's banks begins one list
 pub record BeginOneHistory (ends : List PortEnd) : Type 0 where
-  pub whole : List Link
+  pub whole : List HistoryEntry
   pub begin : (port : ℕ) (end : PortEnd) → port < length ends → IsPrefix (slice_index_or ends port end).front whole
 
 -- each of this many ports, in order, from what it starts with on, served its packets among these, at banks of one

@@ -78,7 +78,11 @@ fn push_value(
 }
 
 /// The values of a field that some rule names, and the least that none names, from the least on.
-fn values_of(alloc: Global, rules: &[PortRule], field: Field) -> Result<Vec<HeaderFieldValue>, AllocError>
+fn values_of(
+    alloc: Global,
+    rules: &[PortRule],
+    field: Field,
+) -> Result<Vec<HeaderFieldValue>, AllocError>
     ensures { IfOk result (λ values. values.items ≡ values_of rules.now field) }
 {
     let mut values = Vec::new(alloc);
@@ -103,7 +107,11 @@ fn each_value(alloc: Global) -> Result<Vec<HeaderFieldValue>, AllocError>
 }
 
 /// Adds an initiator with each of some keys.
-fn add_keys(askers: &mut Vec<LoadInitiator>, initiator: HeaderFieldValue, keys: &[HeaderFieldValue]) -> Result<(), AllocError>
+fn add_keys(
+    askers: &mut Vec<LoadInitiator>,
+    initiator: HeaderFieldValue,
+    keys: &[HeaderFieldValue],
+) -> Result<(), AllocError>
     ensures { OnOk result (askers.new.items ≡ with_keys askers.old.items initiator keys.now) }
 {
     for key in keys {
@@ -130,7 +138,10 @@ fn add_pairs(
 }
 
 /// Whose loads the program of a table is asked about.
-pub(crate) fn table_askers(alloc: Global, rules: &[PortRule]) -> Result<Vec<LoadInitiator>, AllocError>
+pub(crate) fn table_askers(
+    alloc: Global,
+    rules: &[PortRule],
+) -> Result<Vec<LoadInitiator>, AllocError>
     ensures { IfOk result (λ askers. askers.items ≡ table_askers rules.now) }
 {
     let initiators = values_of(alloc, rules, Field::Initiator)?;

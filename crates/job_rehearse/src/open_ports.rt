@@ -78,7 +78,8 @@ fn is_port_open(answers: &[Passing], kind: Passing, port: usize) -> bool
 fn ends_run(answers: &[Passing], kind: Passing, port: u8) -> bool
     ensures { result ≡ ends_run answers.now kind port }
 {
-    is_port_open(answers, kind, usize::from(port)) && !is_port_open(answers, kind, usize::from(port) + 1)
+    is_port_open(answers, kind, usize::from(port))
+        && !is_port_open(answers, kind, usize::from(port) + 1)
 }
 
 /// Adds the line of a run of ports.

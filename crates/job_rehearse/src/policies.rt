@@ -220,7 +220,11 @@ pub fn policies_in<'a, F: Files>(
 }
 
 /// What is asked of two images.
-fn asked_of<'a>(alloc: Global, images: &Images, sizes: &MapSizes) -> Result<ComparedPolicies, Fault<'a>>
+fn asked_of<'a>(
+    alloc: Global,
+    images: &Images,
+    sizes: &MapSizes,
+) -> Result<ComparedPolicies, Fault<'a>>
     ensures asked { IfOk result (AreRehearsed images.now sizes.now) }
     ensures refused { IfErr result (AreUnasked images.now sizes.now) }
 {

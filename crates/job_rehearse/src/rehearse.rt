@@ -19,7 +19,7 @@ ghost use Rattle.job_rehearse.specs.Rehearsed.{AsksAny, DoesAny, DoesAt, DoesOne
 use crate::loaders::{LoadSender, Loaders, loader_text, loaders_of};
 use crate::loads::{LoadEnd, LoadOf, load};
 use crate::open_ports::{LoadedNode, loaders};
-use crate::places::{RehearsalNode, PlaceWords, begun_at, place_in, place_of};
+use crate::places::{PlaceWords, RehearsalNode, begun_at, place_in, place_of};
 use crate::policies::{ComparedPolicies, NoPolicy, Policies, asked_in, policies_in};
 use clap::{ArgMatches, Command};
 use job_config::sources::node_option;

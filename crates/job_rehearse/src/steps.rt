@@ -158,7 +158,9 @@ impl TakesLines for Rehearsing {
     fn take<W: Write>(&mut self, alloc: Global, line: &str, out: &mut W) -> Result<(), LineStop> {
         let (port, packet) = packet_at(alloc, line, self.node.ports())?;
         let step = load_step_of(&packet);
-        let reported = self.node.serve_with_program(alloc, port, packet, &mut self.reply);
+        let reported = self
+            .node
+            .serve_with_program(alloc, port, packet, &mut self.reply);
         self.refused = self.refused || is_refused(step, reported.verdict);
         self.failed = self.failed || is_failed(step, reported.served);
         Ok(print_step(out, step, reported.served, self.reply.bytes())?)

@@ -100,7 +100,14 @@ fn lines_of(
         PrintsLoads ports asked.now image.now lead.now (string_bytes lines)) }
 {
     let askers = asked.askers.as_slice();
-    loaders(alloc, &asked.judge, image, rehearsed_node_of(ports), lead, askers)
+    loaders(
+        alloc,
+        &asked.judge,
+        image,
+        rehearsed_node_of(ports),
+        lead,
+        askers,
+    )
 }
 
 /// Adds lines, or that nobody loads if there are none.

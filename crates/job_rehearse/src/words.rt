@@ -127,7 +127,12 @@ fn print_result<W: Write>(out: &mut W, reply: &[u8]) -> io::Result<()>
 /// # Errors
 ///
 /// The error of `out`, if it does not take all of the text.
-pub fn print_step<W: Write>(out: &mut W, step: LoadStep, served: Served, reply: &[u8]) -> io::Result<()>
+pub fn print_step<W: Write>(
+    out: &mut W,
+    step: LoadStep,
+    served: Served,
+    reply: &[u8],
+) -> io::Result<()>
     ensures { OnOk result (Prints W.contents out.old out.new (step_line step served reply.now)) }
 {
     let words = step_words(step);

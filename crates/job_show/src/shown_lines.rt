@@ -9,12 +9,12 @@ use crate::other_lines::{add_begin, add_count, add_other, decimal, is_time, reas
 use crate::paths::{add_path, path_in_front};
 use bpf::ImageFault;
 use hex::FromHex;
-use initiator::{NoReply, Reply, PacketForm};
+use initiator::{NoReply, PacketForm, Reply};
 use job_parts::bad_lines::BadLine;
 use node_parts::LoadRefusal;
 use rmap::{
-    BodyFault, CONTROL_SIZE, Command, ControlData, Discard, DiscardFault, HeaderFault, Instruction, Kind,
-    LoadResult, MAX_DATA, PROTOCOL, Place, Status, VERIFY_BUFFER, Windows, header_check,
+    BodyFault, CONTROL_SIZE, Command, ControlData, Discard, DiscardFault, HeaderFault, Instruction,
+    Kind, LoadResult, MAX_DATA, PROTOCOL, Place, Status, VERIFY_BUFFER, Windows, header_check,
 };
 use spw::{End, LineFault, Packet, read_line, read_port, words_of};
 use std::alloc::{AllocError, Global};
@@ -342,7 +342,10 @@ fn add_packet(text: &mut String, alloc: Global, packet: &Packet) -> Result<(), A
         PacketForm::Command { command, fault } => add_command(text, alloc, &command, fault),
         PacketForm::Reply { path, reply } => add_reply(text, alloc, &reply, path, packet.end()),
         PacketForm::NoReply { instruction, why } => add_no_reply(text, instruction, why),
-        PacketForm::Discarded { reason, discard_fault } => add_discard(text, reason, discard_fault, packet.bytes()),
+        PacketForm::Discarded {
+            reason,
+            discard_fault,
+        } => add_discard(text, reason, discard_fault, packet.bytes()),
     }
 }
 
@@ -685,7 +688,9 @@ pub fn shown_line(alloc: Global, line: &str) -> Result<String, LineFault>
 {
     let words = words_of(alloc, line)?;
     let mut text = String::new(alloc);
-    if !add_reported(&mut text, words.as_slice())? && !add_beside(&mut text, alloc, words.as_slice())? {
+    if !add_reported(&mut text, words.as_slice())?
+        && !add_beside(&mut text, alloc, words.as_slice())?
+    {
         add_packet_line(&mut text, alloc, line, words.as_slice())?;
     }
     text.push_str("\n")?;

@@ -54,7 +54,15 @@ fn writes(alloc: Global, maker: &mut Maker, area: Area) -> Result<(), AllocError
     }
     write(alloc, maker, area, SuiteRow::Write, WRITE, area.last(1), 1)?;
     write(alloc, maker, area, SuiteRow::Write, WRITE_ONE, area.base, 4)?;
-    write(alloc, maker, area, SuiteRow::Write, WRITE_ONE, area.last(1), 3)
+    write(
+        alloc,
+        maker,
+        area,
+        SuiteRow::Write,
+        WRITE_ONE,
+        area.last(1),
+        3,
+    )
 }
 
 /// Verified writes, of up to as many bytes as the buffer takes.

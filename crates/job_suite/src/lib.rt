@@ -2,10 +2,10 @@
 #![tactic(auto)]
 
 mod bodies;
+pub mod candidates;
 mod charted;
 pub mod checks;
 pub mod comings;
-pub mod candidates;
 mod effects;
 mod headers;
 mod index;

@@ -1,6 +1,6 @@
 //! What makes the drafts of a suite: the fields that are drawn, and the list.
 
-use crate::candidates::{SuiteInitiator, COMMAND, Candidate, Shape};
+use crate::candidates::{COMMAND, Candidate, Shape, SuiteInitiator};
 use crate::rows::SuiteRow;
 use initiator::RMW_CODE;
 use node_parts::BankConfig;

@@ -157,30 +157,38 @@ impl SuiteRow {
     {
         match self {
             SuiteRow::Short | SuiteRow::ShortBeforeProtocol => Wanted::Stopped(Check::Short),
-            SuiteRow::Protocol | SuiteRow::ProtocolBeforeReplyType | SuiteRow::ProtocolBeforeShort => {
-                Wanted::Stopped(Check::Protocol)
-            }
-            SuiteRow::ReplyType | SuiteRow::ReplyTypeBeforeShort | SuiteRow::ReplyTypeBeforeHeaderCrc => {
-                Wanted::Stopped(Check::ReplyType)
-            }
-            SuiteRow::HeaderCrc | SuiteRow::HeaderCrcBeforeUnusedCode => Wanted::Stopped(Check::HeaderCrc),
-            SuiteRow::ReservedType | SuiteRow::UnusedCode | SuiteRow::UnusedCodeBeforeTargetAddress => {
-                Wanted::Stopped(Check::UnusedCode)
-            }
+            SuiteRow::Protocol
+            | SuiteRow::ProtocolBeforeReplyType
+            | SuiteRow::ProtocolBeforeShort => { Wanted::Stopped(Check::Protocol) }
+            SuiteRow::ReplyType
+            | SuiteRow::ReplyTypeBeforeShort
+            | SuiteRow::ReplyTypeBeforeHeaderCrc => { Wanted::Stopped(Check::ReplyType) }
+            SuiteRow::HeaderCrc | SuiteRow::HeaderCrcBeforeUnusedCode => Wanted::Stopped(
+                Check::HeaderCrc,
+            ),
+            SuiteRow::ReservedType
+            | SuiteRow::UnusedCode
+            | SuiteRow::UnusedCodeBeforeTargetAddress => { Wanted::Stopped(Check::UnusedCode) }
             SuiteRow::TargetAddress | SuiteRow::TargetAddressBeforeRmwLength => {
                 Wanted::Stopped(Check::OtherTarget)
             }
-            SuiteRow::RmwLength | SuiteRow::RmwLengthBeforeVerifyBuffer => Wanted::Stopped(Check::RmwLength),
+            SuiteRow::RmwLength | SuiteRow::RmwLengthBeforeVerifyBuffer => Wanted::Stopped(
+                Check::RmwLength,
+            ),
             SuiteRow::VerifyBuffer | SuiteRow::VerifyBufferBeforeLength => {
                 Wanted::Stopped(Check::VerifyBuffer)
             }
             SuiteRow::Length | SuiteRow::LengthBeforePlace => Wanted::Stopped(Check::Length),
             SuiteRow::Place => Wanted::Stopped(Check::Place),
-            SuiteRow::Program(verdict) | SuiteRow::ProgramBeforeEep(verdict) => Wanted::Judged(verdict),
+            SuiteRow::Program(verdict) | SuiteRow::ProgramBeforeEep(verdict) => Wanted::Judged(
+                verdict,
+            ),
             SuiteRow::Key => Wanted::Brought,
             SuiteRow::Eep | SuiteRow::EepBeforeEarlyEop => Wanted::Spoilt(Status::ErrorEndOfPacket),
             SuiteRow::EarlyEop => Wanted::Spoilt(Status::EarlyEndOfPacket),
-            SuiteRow::TooMuchData | SuiteRow::TooMuchDataBeforeDataCrc => Wanted::Spoilt(Status::TooMuchData),
+            SuiteRow::TooMuchData | SuiteRow::TooMuchDataBeforeDataCrc => Wanted::Spoilt(
+                Status::TooMuchData,
+            ),
             SuiteRow::DataCrc => Wanted::Spoilt(Status::InvalidDataCrc),
             SuiteRow::ReplyAddress
             | SuiteRow::NoReply

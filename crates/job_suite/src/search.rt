@@ -1,8 +1,8 @@
 //! Which verdicts the programs of a node give, and to whom: a search over the fields that a program reads.
 
+use crate::candidates::{Shape, SuiteInitiator};
 use crate::charted::Chart;
 use crate::comings::PacketOutcome;
-use crate::candidates::{SuiteInitiator, Shape};
 use crate::maker::{Area, Maker, READ, READ_ONE, RMW, WRITE, WRITE_ONE, WRITE_VERIFIED};
 use crate::rows::SuiteRow;
 use crate::seen::{HeaderReads, numbers_in};

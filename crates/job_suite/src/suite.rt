@@ -11,8 +11,8 @@ ghost use Rattle.job_suite.specs.Marks.{suite_marked_line};
 ghost use Rattle.job_suite.specs.Trials.{AreTrials, trial_lines_of, trial_line, with_lines};
 
 use crate::bodies::body_rows;
-use crate::charted::Chart;
 use crate::candidates::Candidate;
+use crate::charted::Chart;
 use crate::effects::effect_rows;
 use crate::headers::header_rows;
 use crate::index::{add_missing_row, add_missing_verdict, index_of, is_there};

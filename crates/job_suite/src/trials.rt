@@ -6,9 +6,9 @@ ghost use Rattle.job_suite.specs.Rows.{wanted_of};
 ghost use Rattle.job_suite.specs.Checks.{PassesHeader};
 ghost use Rattle.job_suite.specs.Trials.{AreTrials, HasCome, IsMet, IsTrial};
 
+use crate::candidates::{Candidate, Shape, SuiteInitiator};
 use crate::checks::placed;
 use crate::comings::{PacketOutcome, fits};
-use crate::candidates::{SuiteInitiator, Candidate, Shape};
 use crate::judges::Judges;
 use crate::ranges::MemoryRange;
 use crate::reach::is_printed;
@@ -44,7 +44,12 @@ pub struct Bench {
 impl Bench {
     /// What the command of a packet with this place comes to.
     #[tactic(auto, using(crate::proofs::Meeting::verdict_of))]
-    fn judged(&self, alloc: Global, packet: &Packet, place: Place) -> Result<PacketOutcome, AllocError>
+    fn judged(
+        &self,
+        alloc: Global,
+        packet: &Packet,
+        place: Place,
+    ) -> Result<PacketOutcome, AllocError>
         requires { PassesHeader self.now.windows packet.now place }
         ensures { IfOk result (HasCome self.now packet.now) }
     {
@@ -93,7 +98,12 @@ impl Bench {
     }
 
     /// The packet of a draft as this one asks, if it meets its row and may be printed.
-    fn trial(&self, alloc: Global, candidate: &Candidate, asker: SuiteInitiator) -> Result<Option<Trial>, AllocError>
+    fn trial(
+        &self,
+        alloc: Global,
+        candidate: &Candidate,
+        asker: SuiteInitiator,
+    ) -> Result<Option<Trial>, AllocError>
         ensures { IfOk result (λ received. IfSome received (IsTrial self.now)) }
     {
         let shape = candidate.shape.asked_by(asker);

@@ -33,7 +33,12 @@ fn read_result(maker: &mut Maker, row: SuiteRow) -> Result<(), AllocError> {
 }
 
 /// Adds a control write of these bytes, and a read of the load result.
-fn control(alloc: Global, maker: &mut Maker, row: SuiteRow, bytes: [u8; 4]) -> Result<(), AllocError> {
+fn control(
+    alloc: Global,
+    maker: &mut Maker,
+    row: SuiteRow,
+    bytes: [u8; 4],
+) -> Result<(), AllocError> {
     write(alloc, maker, row, LOAD_REGISTER, &bytes)?;
     read_result(maker, row)
 }
@@ -108,7 +113,12 @@ fn altered(alloc: Global, maker: &mut Maker, image: &[u8]) -> Result<(), AllocEr
 /// Loads the program of a slot again.
 fn load(alloc: Global, maker: &mut Maker, slot: u8, image: &[u8]) -> Result<(), AllocError> {
     stage(alloc, maker, SuiteRow::Load, image)?;
-    control(alloc, maker, SuiteRow::Load, control_bytes(slot, image.len()))
+    control(
+        alloc,
+        maker,
+        SuiteRow::Load,
+        control_bytes(slot, image.len()),
+    )
 }
 
 /// The rows of the boot window.

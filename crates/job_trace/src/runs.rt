@@ -37,7 +37,10 @@ fn stride<'b>(
             machine.answer(answer);
             Some((StepChange::Answered(Call { question, answer }), Some(left)))
         }
-        StepOutcome::Verdict(verdict) => Some((StepChange::Ended(verdict, machine.steps(), budget), None)),
+        StepOutcome::Verdict(verdict) => Some((
+            StepChange::Ended(verdict, machine.steps(), budget),
+            None,
+        )),
         StepOutcome::Trap => None,
     }
 }

@@ -19,7 +19,7 @@ use Rattle.node_parts.specs.Served.{EndsAtWindow}
 use Rattle.annals.specs.declared.deed.Act.{Act}
 use Rattle.annals.specs.declared.deed.Act.TheVariants.{Leaves, Publishes}
 use Rattle.annals.specs.declared.deed.Deed.TheVariants.{Does}
-use Rattle.annals.specs.declared.deed.Link.{Link}
+use Rattle.annals.specs.declared.deed.HistoryEntry.{HistoryEntry}
 use Rattle.annals.specs.Chains.{Due, chain_of, done_for, link, owner_of}
 use Rattle.annals.specs.Publishes.{publishes_chain}
 use Rattle.annals.specs.Shown.{AreListed, shown_in}
@@ -81,12 +81,12 @@ reached_front j p s after is = elim is.ended [
 ]
 
 -- the moment at which a command was taken is in the list
-pub moment_stands : (j : Judging) (p : Cargo) (s after : Standing) (whole : List Link) (is : IsJudgedInRun j p s after) → IsPrefix after.front whole → IsPrefix is.moment.at whole
+pub moment_stands : (j : Judging) (p : Cargo) (s after : Standing) (whole : List HistoryEntry) (is : IsJudgedInRun j p s after) → IsPrefix after.front whole → IsPrefix is.moment.at whole
 moment_stands j p s after whole is begins =
     prefix_trans is.moment.at is.reached whole is.moment.before (prefix_trans is.reached after.front whole (reached_front j p s after is) begins)
 
 -- readers then see all that the port knew
-pub moment_sees : (j : Judging) (p : Cargo) (s after : Standing) (whole : List Link) (is : IsJudgedInRun j p s after) → AreListed whole → IsPrefix after.front whole → length s.pass.programs ≤ shown_in is.moment.at
+pub moment_sees : (j : Judging) (p : Cargo) (s after : Standing) (whole : List HistoryEntry) (is : IsJudgedInRun j p s after) → AreListed whole → IsPrefix after.front whole → length s.pass.programs ≤ shown_in is.moment.at
 moment_sees j p s after whole is listed begins =
     let many = seen_count is.moment.at (listed is.moment.at (moment_stands j p s after whole is begins)) in
     let seen = ap length is.moment.seen in
@@ -94,8 +94,8 @@ moment_sees j p s after whole is listed begins =
     omega (arith, many, seen, longer)
 
 -- it is taken not before readers see what the port knows
-pub from_seen : (place : ℕ) (whole : List Link) (s last : Standing) (ps : List Cargo) (ds : List Deed) (w : Worked s ps ds last) → AreListed whole → IsPrefix last.front whole
-    → ((at : List Link) → IsPrefix at whole → length s.pass.programs ≤ shown_in at → place ≤ length at) → IsFrom place s last ps ds w
+pub from_seen : (place : ℕ) (whole : List HistoryEntry) (s last : Standing) (ps : List Cargo) (ds : List Deed) (w : Worked s ps ds last) → AreListed whole → IsPrefix last.front whole
+    → ((at : List HistoryEntry) → IsPrefix at whole → length s.pass.programs ≤ shown_in at → place ≤ length at) → IsFrom place s last ps ds w
 from_seen place whole s last ps ds w listed begins all = from_by place s last ps ds w (λ j p after is front.
     let stands = prefix_trans after.front last.front whole front begins in
     all is.moment.at (moment_stands j p s after whole is stands) (moment_sees j p s after whole is listed stands))
@@ -113,16 +113,16 @@ pub record PublishesNone (j : Judging) (p : Cargo) (s after : Standing) (is : Is
   pub none : j.loaded ≡ None
 
 -- in the boot window, with a publish, which is in the list
-pub record PublishesOne (q : ℕ) (whole : List Link) (j : Judging) (p : Cargo) (s after : Standing) (is : IsJudgedInRun j p s after) : Type 0 where
+pub record PublishesOne (q : ℕ) (whole : List HistoryEntry) (j : Judging) (p : Cargo) (s after : Standing) (is : IsJudgedInRun j p s after) : Type 0 where
   pub windowed : IsWindowEnd j (stand is.between s.asked is.reached) after
   pub publish : Publish
   pub some : j.loaded ≡ Some publish
   pub placed : IsPlaced q whole is.reached windowed.old publish
 
-abbrev pub HasEnded : (q : ℕ) (whole : List Link) (j : Judging) (p : Cargo) (s after : Standing) → IsJudgedInRun j p s after → Type 0
+abbrev pub HasEnded : (q : ℕ) (whole : List HistoryEntry) (j : Judging) (p : Cargo) (s after : Standing) → IsJudgedInRun j p s after → Type 0
 HasEnded q whole j p s after is = LeavesEntry j p s after is ⊎ (PublishesNone j p s after is ⊎ PublishesOne q whole j p s after is)
 
-pub ended : (q : ℕ) (whole : List Link) (j : Judging) (p : Cargo) (s after : Standing) (is : IsJudgedInRun j p s after) → IsJudgedInFull s after j → IsLoadPlaced q whole j p s after is → HasEnded q whole j p s after is
+pub ended : (q : ℕ) (whole : List HistoryEntry) (j : Judging) (p : Cargo) (s after : Standing) (is : IsJudgedInRun j p s after) → IsJudgedInFull s after j → IsLoadPlaced q whole j p s after is → HasEnded q whole j p s after is
 ended q whole j p s after is full placed = elim is.ended [
   | inl banked ↦ inl (record { banked = banked; left = full.entered (bank_is j.judged.place banked.number banked.place) })
   | inr windowed ↦ inr (by windowed j.loaded refl)
@@ -173,7 +173,7 @@ asks_some : (port : ℕ) (loaded : Option Publish) (x : Publish) (old new : List
 asks_some port loaded x old new asked after is asks = subst (λ (o : Option Publish). AsksForLoad port o old new asked after) is asks
 
 -- where a load's publish is, by what its port knows of the history
-place_of_load : (q : ℕ) (whole : List Link) (j : Judging) (p : Cargo) (s after : Standing) (is : IsJudgedInRun j p s after) → s.pass.port ≡ q → IsPrefix after.front whole → IsLoadPlaced q whole j p s after is
+place_of_load : (q : ℕ) (whole : List HistoryEntry) (j : Judging) (p : Cargo) (s after : Standing) (is : IsJudgedInRun j p s after) → s.pass.port ≡ q → IsPrefix after.front whole → IsLoadPlaced q whole j p s after is
 place_of_load q whole j p s after is port front = λ publish it some.
     let asks = asks_some is.between.port j.loaded publish it.old it.new s.asked after.asked some it.asks_for in
     let load = load_of j.judged.place is.between after.pass it.old it.new j.judged it.result j.reply publish refl it.ended asks.0 in
@@ -182,7 +182,7 @@ place_of_load q whole j p s after is port front = λ publish it some.
     placed_by q whole is.reached moment.met after.front it.old it.new s.asked after.asked publish moment.seen moment.published moment.did moment.goes moment.publishes moment.does
     (subst (λ (i : ℕ). AsksForLoad i (Some publish) it.old it.new s.asked after.asked) own asks) front
 
-pub loads_placed : Laws → (q : ℕ) (whole : List Link) (s last : Standing) (ps : List Cargo) (ds : List Deed) (w : Worked s ps ds last) → s.pass.port ≡ q → IsPrefix last.front whole → AreLoadsPlaced q whole s ps ds last w
+pub loads_placed : Laws → (q : ℕ) (whole : List HistoryEntry) (s last : Standing) (ps : List Cargo) (ds : List Deed) (w : Worked s ps ds last) → s.pass.port ≡ q → IsPrefix last.front whole → AreLoadsPlaced q whole s ps ds last w
 loads_placed laws q whole s last [] [] w port begins = tt
 loads_placed laws q whole s last [] (d ∷ ds) w port begins = tt
 loads_placed laws q whole s last (p ∷ ps) [] w port begins = tt
@@ -194,7 +194,7 @@ loads_placed laws q whole s last (p ∷ ps) (Judged j ∷ ds) w port begins =
       loads_placed laws q whole w.0 last ps ds w.2 ((one_counted laws.counts (Judged j) p s w.0 w.1).port ∙ port) begins,
     )
 
-pub one_loaded : (q : ℕ) (whole : List Link) (j : Judging) (p : Cargo) (s after : Standing) (is : IsJudgedInRun j p s after) (one : PublishesOne q whole j p s after is)
+pub one_loaded : (q : ℕ) (whole : List HistoryEntry) (j : Judging) (p : Cargo) (s after : Standing) (is : IsJudgedInRun j p s after) (one : PublishesOne q whole j p s after is)
     → IsLoadOf is.between after.pass one.windowed.old one.windowed.new j.judged one.windowed.result j.reply one.publish
 one_loaded q whole j p s after is one =
     let it = one.windowed in
@@ -204,9 +204,9 @@ one_loaded q whole j p s after is one =
 -- ---- acts
 
 -- what a command did that left an entry or published: it is in the list after all that the port knew when it was taken
-pub record HasActed (q : ℕ) (whole : List Link) (j : Judging) (p : Cargo) (s after : Standing) (is : IsJudgedInRun j p s after) : Type 0 where
-  pub before : List Link
-  pub item : Link
+pub record HasActed (q : ℕ) (whole : List HistoryEntry) (j : Judging) (p : Cargo) (s after : Standing) (is : IsJudgedInRun j p s after) : Type 0 where
+  pub before : List HistoryEntry
+  pub item : HistoryEntry
   pub act : Act
   pub deed : item.deed ≡ Does act
   pub own : owner_of act ≡ q
@@ -214,7 +214,7 @@ pub record HasActed (q : ℕ) (whole : List Link) (j : Judging) (p : Cargo) (s a
   pub seen : IsPrefix is.reached before
   pub asked : length after.asked ≡ length s.asked + 1
 
-abbrev pub entry_acted : (q k : ℕ) (whole : List Link) (j : Judging) (p : Cargo) (s after : Standing) (is : IsJudgedInRun j p s after) (done : IsDoneAt k j (stand is.between s.asked is.reached) after) → s.pass.port ≡ q → IsPrefix after.front whole
+abbrev pub entry_acted : (q k : ℕ) (whole : List HistoryEntry) (j : Judging) (p : Cargo) (s after : Standing) (is : IsJudgedInRun j p s after) (done : IsDoneAt k j (stand is.between s.asked is.reached) after) → s.pass.port ≡ q → IsPrefix after.front whole
     → length after.asked ≡ length s.asked + 1 → HasActed q whole j p s after is
 entry_acted q k whole j p s after is done port begins asked = record {
   before = done.before;
@@ -222,19 +222,19 @@ entry_acted q k whole j p s after is done port begins asked = record {
   act = Leaves (entry_of done.share j.judged done.status);
   deed = refl;
   own = is.judgement.judged_for.port_of ∙ port;
-  stands = subst (λ (l : List Link). IsPrefix l whole) done.log begins;
+  stands = subst (λ (l : List HistoryEntry). IsPrefix l whole) done.log begins;
   seen = done.seen;
   asked = asked;
 }
 
 -- for a load its port asked for one more
-pub load_asked : (q : ℕ) (whole : List Link) (j : Judging) (p : Cargo) (s after : Standing) (is : IsJudgedInRun j p s after) → PublishesOne q whole j p s after is → length after.asked ≡ length s.asked + 1
+pub load_asked : (q : ℕ) (whole : List HistoryEntry) (j : Judging) (p : Cargo) (s after : Standing) (is : IsJudgedInRun j p s after) → PublishesOne q whole j p s after is → length after.asked ≡ length s.asked + 1
 load_asked q whole j p s after is one =
     let it = one.windowed in
     let asks = asks_some is.between.port j.loaded one.publish it.old it.new s.asked after.asked one.some it.asks_for in
     ap length asks.1 ∙ length-append s.asked ((publishes_chain, Publishes (is.between.port, one.publish)) ∷ [])
 
-abbrev pub load_acted : (q : ℕ) (whole : List Link) (j : Judging) (p : Cargo) (s after : Standing) (is : IsJudgedInRun j p s after) → PublishesOne q whole j p s after is → HasActed q whole j p s after is
+abbrev pub load_acted : (q : ℕ) (whole : List HistoryEntry) (j : Judging) (p : Cargo) (s after : Standing) (is : IsJudgedInRun j p s after) → PublishesOne q whole j p s after is → HasActed q whole j p s after is
 load_acted q whole j p s after is one = record {
   before = one.placed.before;
   item = one.placed.item;
@@ -247,7 +247,7 @@ load_acted q whole j p s after is one = record {
 }
 
 -- after a load the next command is taken not before the place of its publish
-pub from_publish : (q : ℕ) (whole : List Link) (j : Judging) (p : Cargo) (s after last : Standing) (is : IsJudgedInRun j p s after) (one : PublishesOne q whole j p s after is) (ps : List Cargo) (ds : List Deed) (w : Worked after ps ds last)
+pub from_publish : (q : ℕ) (whole : List HistoryEntry) (j : Judging) (p : Cargo) (s after last : Standing) (is : IsJudgedInRun j p s after) (one : PublishesOne q whole j p s after is) (ps : List Cargo) (ds : List Deed) (w : Worked after ps ds last)
     → AreListed whole → IsPrefix last.front whole → IsFrom (length one.placed.before + 1) after last ps ds w
 from_publish q whole j p s after last is one ps ds w listed begins =
     from_seen (length one.placed.before + 1) whole after last ps ds w listed begins (λ at stands many.
@@ -265,9 +265,9 @@ from_publish q whole j p s after last is one ps ds w listed begins =
 
 -- Before the moment at which a command is taken its port did no more than it asked for before that command. It is so if
 -- it is so after the command.
-judged_few : (q : ℕ) (whole x : List Link) (s last after : Standing) (j : Judging) (p : Cargo) (ps : List Cargo) (ds : List Deed) (is : IsJudgedInRun j p s after) (w : Worked after ps ds last) → AreListed whole → IsPrefix last.front whole
+judged_few : (q : ℕ) (whole x : List HistoryEntry) (s last after : Standing) (j : Judging) (p : Cargo) (ps : List Cargo) (ds : List Deed) (is : IsJudgedInRun j p s after) (w : Worked after ps ds last) → AreListed whole → IsPrefix last.front whole
     → s.pass.port ≡ q → IsPrefix after.front whole → IsPrefix x whole → length x ≤ length is.moment.at → HasEnded q whole j p s after is
-    → ((y : List Link) → IsPrefix y whole → IsFrom (length y) after last ps ds w → length (done_for q y) ≤ length after.asked) → length (done_for q x) ≤ length s.asked
+    → ((y : List HistoryEntry) → IsPrefix y whole → IsFrom (length y) after last ps ds w → length (done_for q y) ≤ length after.asked) → length (done_for q x) ≤ length s.asked
 judged_few q whole x s last after j p ps ds is w listed begins port front stands from end rest = by end
   where
     known : IsPrefix x is.reached
@@ -302,7 +302,7 @@ judged_few q whole x s last after j p ps ds is w listed begins port front stands
     by (inr (inr one)) = acted (load_acted q whole j p s after is one) (from_publish q whole j p s after last is one ps ds w listed begins)
 
 -- At a place of the list at which the next command is not yet taken, a port did no more than it asked for.
-pub acts_few : Laws → (n : Node) (q : ℕ) (whole x : List Link) (s last : Standing) (ps : List Cargo) (ds : List Deed) (w : Worked s ps ds last) → AreListed whole → IsPrefix last.front whole → length (done_for q whole) ≤ length last.asked
+pub acts_few : Laws → (n : Node) (q : ℕ) (whole x : List HistoryEntry) (s last : Standing) (ps : List Cargo) (ds : List Deed) (w : Worked s ps ds last) → AreListed whole → IsPrefix last.front whole → length (done_for q whole) ≤ length last.asked
     → s.pass.port ≡ q → AreDealtInFull n s ps ds last w → AreLoadsPlaced q whole s ps ds last w → IsPrefix x whole → IsFrom (length x) s last ps ds w → length (done_for q x) ≤ length s.asked
 acts_few laws n q whole x s last [] [] w listed begins did port full placed stands from =
     let few = done_few q x whole stands in let same = ap (λ (y : Standing). length y.asked) w in omega (arith, few, did, same)

@@ -20,7 +20,7 @@ use Rattle.node_parts.specs.declared.config.BankConfig.{BankConfig}
 use Rattle.node_parts.specs.Applied.{share_of}
 use Rattle.node_parts.specs.Nodes.{range_of}
 use Rattle.node_parts.specs.Passes.{PassValue}
-use Rattle.annals.specs.declared.deed.Link.{Link}
+use Rattle.annals.specs.declared.deed.HistoryEntry.{HistoryEntry}
 use Rattle.annals.specs.Banks.{entries_of}
 use Rattle.ports.specs.Due.{Deed, IsDealt, IsJudgedInRun, Judging, Standing, Worked, judgings, stand}
 use Rattle.ports.specs.Due.Deed.{Dropped, Answered, Judged}
@@ -91,7 +91,7 @@ bank_is place k at = ap is_bank_place at
 -- ---- one command
 
 -- a command that has its verdict was done: what its port has then, and what happened
-done_dealt : (n : Node) (port : ℕ) (start : List Link) (p : Cargo) (j : Judging) (h now : History) (s after : Standing) (between : PassValue) (e : Event) (status : Status) (loaded : Option (List ℕ)) → port < n.ports
+done_dealt : (n : Node) (port : ℕ) (start : List HistoryEntry) (p : Cargo) (j : Judging) (h now : History) (s after : Standing) (between : PassValue) (e : Event) (status : Status) (loaded : Option (List ℕ)) → port < n.ports
     → IsIdle n port start h s → HasVerdict n port h now p j → between.staging ≡ s.pass.staging → SharesCount s.pass after.pass (Judged j ∷ []) → IsPrefix s.front after.front → e ≡ ending j.judged.place port
     → IsOutcomeAtExceptAnswer n now e (Done status j.reply loaded) → staged_after n (Some (asking p j.judged.generation h (answers_of_calls j.calls))) status loaded between.staging ≡ after.pass.staging
     → IsKnown n (Then now e (Done status j.reply loaded)) after.pass.programs
@@ -129,7 +129,7 @@ done_dealt n port start p j h now s after between e status loaded there idle ver
     }
 
 -- the list of the node, of which all that banks have is the port's
-abbrev AreOwn : (n : Node) (port : ℕ) (whole : List Link) → Type 0
+abbrev AreOwn : (n : Node) (port : ℕ) (whole : List HistoryEntry) → Type 0
 AreOwn n port whole = (k : ℕ) (bank : BankConfig) → slice_get n.banks k ≡ Some bank → IsOwnBank port k bank whole
 
 -- a bank's entries after a command at that bank
@@ -184,7 +184,7 @@ pub record Laws : Type 0 where
   pub counts : WorkersSharesCount
   pub agrees : PublishedAgrees
 
-judged_dealt : Laws → (n : Node) (port : ℕ) (start whole : List Link) (p : Cargo) (j : Judging) (h : History) (s after : Standing) → port < n.ports → AreOwn n port whole → IsIdle n port start h s
+judged_dealt : Laws → (n : Node) (port : ℕ) (start whole : List HistoryEntry) (p : Cargo) (j : Judging) (h : History) (s after : Standing) → port < n.ports → AreOwn n port whole → IsIdle n port start h s
     → (is : IsJudgedInRun j p s after) → IsJudgedInFull s after j → length after.pass.programs ≤ length s.pass.programs + made j.loaded → IsPrefix after.front whole → HasDealt n port start (Judged j) p h after
 judged_dealt laws n port start whole p j h s after there own idle is full few begins =
     let grown = judged_grown j p s after is in
@@ -276,13 +276,13 @@ worked_front s last [] (d ∷ ds) w = absurd w
 worked_front s last (p ∷ ps) [] w = absurd w
 worked_front s last (p ∷ ps) (d ∷ ds) w = prefix_trans s.front w.0.front last.front (dealt_front d p s w.0 w.1) (worked_front w.0 last ps ds w.2)
 
-dealt : Laws → (n : Node) (port : ℕ) (start whole : List Link) (d : Deed) (p : Cargo) (h : History) (s after : Standing) → port < n.ports → AreOwn n port whole → IsIdle n port start h s
+dealt : Laws → (n : Node) (port : ℕ) (start whole : List HistoryEntry) (d : Deed) (p : Cargo) (h : History) (s after : Standing) → port < n.ports → AreOwn n port whole → IsIdle n port start h s
     → IsDealt d p s after → IsDealtInFull n d p s after → length after.pass.programs ≤ length s.pass.programs + made_by d → IsPrefix after.front whole → HasDealt n port start d p h after
 dealt laws n port start whole Dropped p h s after there own idle is full few begins = dropped n port start p h s after there idle is
 dealt laws n port start whole (Answered reply) p h s after there own idle is full few begins = replied n port start p reply h s after there idle full is
 dealt laws n port start whole (Judged j) p h s after there own idle is full few begins = judged_dealt laws n port start whole p j h s after there own idle is full few begins
 
-gone : Laws → (n : Node) (port : ℕ) (start whole : List Link) (ps : List Cargo) (ds : List Deed) (h : History) (s last : Standing) (w : Worked s ps ds last) → port < n.ports → AreOwn n port whole → IsIdle n port start h s
+gone : Laws → (n : Node) (port : ℕ) (start whole : List HistoryEntry) (ps : List Cargo) (ds : List Deed) (h : History) (s last : Standing) (w : Worked s ps ds last) → port < n.ports → AreOwn n port whole → IsIdle n port start h s
     → AreDealtInFull n s ps ds last w → length last.pass.programs ≤ length s.pass.programs + length (publishes_of_commands (judgings ds)) → IsPrefix last.front whole → HasGone n port start ps ds h last
 gone laws n port start whole [] [] h s last w there own idle full few begins = record {
   after = h;
@@ -320,7 +320,7 @@ fresh_idle laws n s fresh = record {
 }
 
 -- the entries that the port left are all that the list has of the bank
-all_entries : (n : Node) (port k : ℕ) (bank : BankConfig) (start whole : List Link) (h : History) (last : Standing) → slice_get n.banks k ≡ Some bank → IsOwnBank port k bank whole → IsIdle n port start h last → IsPrefix last.front whole
+all_entries : (n : Node) (port k : ℕ) (bank : BankConfig) (start whole : List HistoryEntry) (h : History) (last : Standing) → slice_get n.banks k ≡ Some bank → IsOwnBank port k bank whole → IsIdle n port start h last → IsPrefix last.front whole
     → IsPrefix (numbers_of last.pass.port (entries_of k whole)) (range_with_len 0 (share_of last.pass (places.Bank k)).number) → entries n h k ≡ entries_of k whole
 all_entries n port k bank start whole h last there own idle begins counted =
     let left = idle.banks k bank there in

@@ -22,7 +22,7 @@ use Rattle.node_parts.specs.Applied.{share_of, with_share}
 use Rattle.node_parts.specs.Passes.{PassValue}
 use Rattle.annals.specs.declared.deed.Act.TheVariants.{Leaves}
 use Rattle.annals.specs.declared.deed.Deed.TheVariants.{Does}
-use Rattle.annals.specs.declared.deed.Link.{Link}
+use Rattle.annals.specs.declared.deed.HistoryEntry.{HistoryEntry}
 use Rattle.annals.specs.Banks.{IsDoneAtBank, answer_after, entries_of, memory_after, takes}
 use Rattle.annals.specs.Chains.{Due, chain_of, link}
 use Rattle.target.specs.Finished.{IsDoneAfter}
@@ -86,7 +86,7 @@ bank_staging n o j k status h after lies place is =
     ap (λ (x : Option Place). staged_at x status (command_of o.packet) h.pass.staging) (lies ∙ ap (λ (x : Place). Some x) place) ∙ sym (banked_staging j h after is)
 
 -- a port knows more of the list, or what it knew
-pub finished_front : (number : Option ℕ) (programs : List Publish) (k : ℕ) (known reached : List Link) (share : ShareValue) (j : JudgedValue) (result : Applied) (reply : List ℕ)
+pub finished_front : (number : Option ℕ) (programs : List Publish) (k : ℕ) (known reached : List HistoryEntry) (share : ShareValue) (j : JudgedValue) (result : Applied) (reply : List ℕ)
     → IfSome number (λ x. IsDoneAfter programs k known reached share j result reply) → IfNone number (reached ≡ known) → IsPrefix known reached
 finished_front None programs k known reached share j result reply some none = prefix_same known reached none
 finished_front (Some x) programs k known reached share j result reply some none =
@@ -97,7 +97,7 @@ pub record IsDoneAt (k : ℕ) (j : Judging) (h after : Standing) : Type 0 where
   pub status : Status
   pub share : ShareValue
   pub share_is : share ≡ share_of h.pass j.judged.place
-  pub before : List Link
+  pub before : List HistoryEntry
   pub next : ℕ
   pub log : after.front ≡ before ++ link k (length (chain_of k before)) (Does (Leaves (entry_of share j.judged status))) next ∷ []
   pub seen : IsPrefix h.front before
@@ -134,7 +134,7 @@ pub record EndsAtBank (n : Node) (port k : ℕ) (now : History) (o : Open) (repl
   pub more : length (entries_of k after.front) ≡ length (entries n now k) + 1
   pub others : (m : ℕ) → (m ≡ k → ⊥) → entries n (Then now (Effect port) (Done status reply None)) m ≡ entries n now m
 
-pub bank_thus : (n : Node) (port k : ℕ) (bank : BankConfig) (whole : List Link) (now : History) (o : Open) (j : Judging) (s h after : Standing) → slice_get n.banks k ≡ Some bank → IsOwnBank port k bank whole
+pub bank_thus : (n : Node) (port k : ℕ) (bank : BankConfig) (whole : List HistoryEntry) (now : History) (o : Open) (j : Judging) (s h after : Standing) → slice_get n.banks k ≡ Some bank → IsOwnBank port k bank whole
     → IsNow n port now o j h.pass → o.generation ≡ j.judged.generation → j.judged.port ≡ port → j.judged.place ≡ places.Bank k → j.entered ≡ true → (is : IsBanked j h after)
     → IsPrefix s.front h.front → IsPrefix after.front whole → IsLeftSoFar (entries n now k) k s → next_number_at h.pass k ≡ next_number_at s.pass k
     → EndsAtBank n port k now o j.reply h after

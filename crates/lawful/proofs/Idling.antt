@@ -13,7 +13,7 @@ use Rattle.node_programs.specs.Published.{judging_program, sizes_of}
 use Rattle.node_parts.specs.declared.config.BankConfig.{BankConfig}
 use Rattle.node_parts.specs.declared.stop.Stop.TheVariants as stops
 use Rattle.node_parts.specs.Steps.{IsStopped}
-use Rattle.annals.specs.declared.deed.Link.{Link}
+use Rattle.annals.specs.declared.deed.HistoryEntry.{HistoryEntry}
 use Rattle.annals.specs.Banks.{entries_of}
 use Rattle.ports.specs.Due.{Deed, IsDropped, IsUnjudged, Standing}
 use Rattle.ports.specs.Due.Deed.{Dropped, Answered as Replied}
@@ -40,7 +40,7 @@ pub record IsLeftSoFar (es : List EntryValue) (k : ℕ) (s : Standing) : Type 0 
   pub number : length es ≡ next_number_at s.pass k
 
 -- a port that judges no command, after that history
-pub record IsIdle (n : Node) (port : ℕ) (start : List Link) (h : History) (s : Standing) : Type 0 where
+pub record IsIdle (n : Node) (port : ℕ) (start : List HistoryEntry) (h : History) (s : Standing) : Type 0 where
   pub lawful : IsLawfulExceptAnswers n h
   pub closed : opened h port ≡ None
   pub staging_is : staging n h port ≡ s.pass.staging
@@ -62,7 +62,7 @@ pub left_kept : (es fs : List EntryValue) (k : ℕ) (s : Standing) → fs ≡ es
 left_kept es fs k s same left = subst (λ (xs : List EntryValue). IsLeftSoFar xs k s) (sym same) left
 
 -- after events that keep all, a port that is as it was
-idle_kept : (n : Node) (port : ℕ) (start : List Link) (h after : History) (s : Standing) → Keeps n port h after → IsLawfulExceptAnswers n after → opened after port ≡ None → IsIdle n port start h s → IsIdle n port start after s
+idle_kept : (n : Node) (port : ℕ) (start : List HistoryEntry) (h after : History) (s : Standing) → Keeps n port h after → IsLawfulExceptAnswers n after → opened after port ≡ None → IsIdle n port start h s → IsIdle n port start after s
 idle_kept n port start h after s keeps lawful closed idle = record {
   lawful = lawful;
   closed = closed;
@@ -76,7 +76,7 @@ idle_kept n port start h after s keeps lawful closed idle = record {
 }
 
 -- what became of a packet, as a history goes on by it
-pub record HasDealt (n : Node) (port : ℕ) (start : List Link) (d : Deed) (p : Cargo) (h : History) (s : Standing) : Type 0 where
+pub record HasDealt (n : Node) (port : ℕ) (start : List HistoryEntry) (d : Deed) (p : Cargo) (h : History) (s : Standing) : Type 0 where
   pub after : History
   pub idle : IsIdle n port start after s
   pub happened : List Happening
@@ -85,7 +85,7 @@ pub record HasDealt (n : Node) (port : ℕ) (start : List Link) (d : Deed) (p : 
   pub elsewhere : StaysElsewhere n port h after
 
 -- what became of some packets
-pub record HasGone (n : Node) (port : ℕ) (start : List Link) (ps : List Cargo) (ds : List Deed) (h : History) (s : Standing) : Type 0 where
+pub record HasGone (n : Node) (port : ℕ) (start : List HistoryEntry) (ps : List Cargo) (ds : List Deed) (h : History) (s : Standing) : Type 0 where
   pub after : History
   pub idle : IsIdle n port start after s
   pub happened : List Happening
@@ -93,7 +93,7 @@ pub record HasGone (n : Node) (port : ℕ) (start : List Link) (ps : List Cargo)
   pub by : HappenBy port ps ds happened
   pub elsewhere : StaysElsewhere n port h after
 
-pub gone_on : (n : Node) (port : ℕ) (start : List Link) (d : Deed) (ds : List Deed) (p : Cargo) (ps : List Cargo) (h : History) (s last : Standing) (here : HasDealt n port start d p h s)
+pub gone_on : (n : Node) (port : ℕ) (start : List HistoryEntry) (d : Deed) (ds : List Deed) (p : Cargo) (ps : List Cargo) (h : History) (s last : Standing) (here : HasDealt n port start d p h s)
     → HasGone n port start ps ds here.after last → HasGone n port start (p ∷ ps) (d ∷ ds) h last
 gone_on n port start d ds p ps h s last here rest = record {
   after = rest.after;
@@ -174,7 +174,7 @@ replied_thus n port p reply h s after there lawful closed windows full is =
     ]
 
 -- a port that knows what it knew
-passed : (n : Node) (port : ℕ) (start : List Link) (d : Deed) (p : Cargo) (h : History) (s after : Standing) → IsIdle n port start h s → after ≡ s → HasPassed n port d p h → HasDealt n port start d p h after
+passed : (n : Node) (port : ℕ) (start : List HistoryEntry) (d : Deed) (p : Cargo) (h : History) (s after : Standing) → IsIdle n port start h s → after ≡ s → HasPassed n port d p h → HasDealt n port start d p h after
 passed n port start d p h s after idle same it = record {
   after = it.after;
   idle = subst (λ (x : Standing). IsIdle n port start it.after x) (sym same) (idle_kept n port start h it.after s it.keeps it.lawful it.closed idle);
@@ -184,9 +184,9 @@ passed n port start d p h s after idle same it = record {
   elsewhere = it.keeps.elsewhere;
 }
 
-pub dropped : (n : Node) (port : ℕ) (start : List Link) (p : Cargo) (h : History) (s after : Standing) → port < n.ports → IsIdle n port start h s → IsDropped p s after → HasDealt n port start Dropped p h after
+pub dropped : (n : Node) (port : ℕ) (start : List HistoryEntry) (p : Cargo) (h : History) (s after : Standing) → port < n.ports → IsIdle n port start h s → IsDropped p s after → HasDealt n port start Dropped p h after
 dropped n port start p h s after there idle is = passed n port start Dropped p h s after idle is.same (dropped_thus n port p h s after there idle.lawful idle.closed is)
 
-pub replied : (n : Node) (port : ℕ) (start : List Link) (p : Cargo) (reply : List ℕ) (h : History) (s after : Standing) → port < n.ports → IsIdle n port start h s
+pub replied : (n : Node) (port : ℕ) (start : List HistoryEntry) (p : Cargo) (reply : List ℕ) (h : History) (s after : Standing) → port < n.ports → IsIdle n port start h s
     → (status : Status) × (header_line (command_of p) (windows_in n) ≡ Some status) → IsUnjudged reply p s after → HasDealt n port start (Replied reply) p h after
 replied n port start p reply h s after there idle full is = passed n port start (Replied reply) p h s after idle is.same (replied_thus n port p reply h s after there idle.lawful idle.closed idle.windows full is)

@@ -13,7 +13,7 @@ use Rattle.annals.specs.declared.deed.Act.{Act}
 use Rattle.annals.specs.declared.deed.Act.TheVariants.{Leaves, Sets, Rotates, Publishes}
 use Rattle.annals.specs.declared.deed.Deed.{Deed}
 use Rattle.annals.specs.declared.deed.Deed.TheVariants.{Opens, Does, Asks, Shows}
-use Rattle.annals.specs.declared.deed.Link.{Link}
+use Rattle.annals.specs.declared.deed.HistoryEntry.{HistoryEntry}
 use Rattle.annals.specs.Banks.{entries_in, entries_of, with_entry}
 use Rattle.annals.specs.Chains.{Due, chain_of, done_for, link, owner_of, with_done}
 use Rattle.annals.specs.Publishes.{publishes_chain, publishes_in, publishes_of, with_publish}
@@ -68,15 +68,15 @@ done_joined q c (Does a) xs ys = here (owner_of a == q) where
 done_joined q c (Asks x) xs ys = refl
 done_joined q c Shows xs ys = refl
 
-pub done_append : (q : ℕ) (ls ms : List Link) → done_for q (ls ++ ms) ≡ done_for q ls ++ done_for q ms
+pub done_append : (q : ℕ) (ls ms : List HistoryEntry) → done_for q (ls ++ ms) ≡ done_for q ls ++ done_for q ms
 done_append q [] ms = refl
 done_append q (l ∷ ls) ms = ap (with_done q l.chain l.deed) (done_append q ls ms) ∙ done_joined q l.chain l.deed (done_for q ls) (done_for q ms)
 
-pub done_prefix : (q : ℕ) (xs ys : List Link) → IsPrefix xs ys → IsPrefix (done_for q xs) (done_for q ys)
+pub done_prefix : (q : ℕ) (xs ys : List HistoryEntry) → IsPrefix xs ys → IsPrefix (done_for q xs) (done_for q ys)
 done_prefix q xs ys p = (done_for q p.0, sym (done_append q xs p.0) ∙ ap (done_for q) p.1)
 
 -- who has more of a list has no fewer acts of it
-pub done_few : (q : ℕ) (xs ys : List Link) → IsPrefix xs ys → length (done_for q xs) ≤ length (done_for q ys)
+pub done_few : (q : ℕ) (xs ys : List HistoryEntry) → IsPrefix xs ys → length (done_for q xs) ≤ length (done_for q ys)
 done_few q xs ys p = prefix_length (done_for q xs) (done_for q ys) (done_prefix q xs ys p)
 
 pub does : (q c : ℕ) (d : Deed) (a : Act) (rest : List Due) → d ≡ Does a → owner_of a ≡ q → with_done q c d rest ≡ (c, a) ∷ rest
@@ -85,10 +85,10 @@ does q c d a rest is own =
     ap (λ (x : Deed). with_done q c x rest) is ∙ ap (λ (b : Bool). cond b ((c, a) ∷ rest) rest) same
 
 -- an act of that owner
-pub done_own : (q : ℕ) (pre : List Link) (l : Link) (a : Act) → l.deed ≡ Does a → owner_of a ≡ q → done_for q (pre ++ l ∷ []) ≡ done_for q pre ++ (l.chain, a) ∷ []
+pub done_own : (q : ℕ) (pre : List HistoryEntry) (l : HistoryEntry) (a : Act) → l.deed ≡ Does a → owner_of a ≡ q → done_for q (pre ++ l ∷ []) ≡ done_for q pre ++ (l.chain, a) ∷ []
 done_own q pre l a is own = done_append q pre (l ∷ []) ∙ ap (λ (ds : List Due). done_for q pre ++ ds) (does q l.chain l.deed a [] is own)
 
-pub done_one : (q : ℕ) (pre : List Link) (l : Link) (a : Act) → l.deed ≡ Does a → owner_of a ≡ q → length (done_for q (pre ++ l ∷ [])) ≡ length (done_for q pre) + 1
+pub done_one : (q : ℕ) (pre : List HistoryEntry) (l : HistoryEntry) (a : Act) → l.deed ≡ Does a → owner_of a ≡ q → length (done_for q (pre ++ l ∷ [])) ≡ length (done_for q pre) + 1
 done_one q pre l a is own = ap length (done_own q pre l a is own) ∙ size_more (done_for q pre) (l.chain, a)
 
 -- no act of that owner
@@ -113,7 +113,7 @@ none_asks q d x is = λ c. ap (λ (y : Deed). with_done q c y []) is
 pub none_shows : (q : ℕ) (d : Deed) → d ≡ Shows → IsNoneOf q d
 none_shows q d is = λ c. ap (λ (y : Deed). with_done q c y []) is
 
-pub done_same : (q : ℕ) (pre : List Link) (l : Link) → IsNoneOf q l.deed → done_for q (pre ++ l ∷ []) ≡ done_for q pre
+pub done_same : (q : ℕ) (pre : List HistoryEntry) (l : HistoryEntry) → IsNoneOf q l.deed → done_for q (pre ++ l ∷ []) ≡ done_for q pre
 done_same q pre l none = done_append q pre (l ∷ []) ∙ (ap (λ (ds : List Due). done_for q pre ++ ds) (none l.chain) ∙ append-nil (done_for q pre))
 
 -- ---- what was published
@@ -127,40 +127,40 @@ publish_joined (Does (Publishes x)) ps qs = refl
 publish_joined (Asks x) ps qs = refl
 publish_joined Shows ps qs = refl
 
-publishes_append : (ls ms : List Link) → publishes_in (ls ++ ms) ≡ publishes_in ls ++ publishes_in ms
+publishes_append : (ls ms : List HistoryEntry) → publishes_in (ls ++ ms) ≡ publishes_in ls ++ publishes_in ms
 publishes_append [] ms = refl
 publishes_append (l ∷ ls) ms = ap (with_publish l.deed) (publishes_append ls ms) ∙ publish_joined l.deed (publishes_in ls) (publishes_in ms)
 
-chain_snoc : (c : ℕ) (pre : List Link) (l : Link) → chain_of c (pre ++ l ∷ []) ≡ chain_of c pre ++ cond (l.chain == c) (l ∷ []) []
-chain_snoc c pre l = filter-append (λ (x : Link). x.chain == c) pre (l ∷ [])
+chain_snoc : (c : ℕ) (pre : List HistoryEntry) (l : HistoryEntry) → chain_of c (pre ++ l ∷ []) ≡ chain_of c pre ++ cond (l.chain == c) (l ∷ []) []
+chain_snoc c pre l = filter-append (λ (x : HistoryEntry). x.chain == c) pre (l ∷ [])
 
 -- what begins a list has a chain that begins the list's
-pub chain_begin : (c : ℕ) (xs ys : List Link) → IsPrefix xs ys → IsPrefix (chain_of c xs) (chain_of c ys)
-chain_begin c xs ys p = (chain_of c p.0, sym (filter-append (λ (l : Link). l.chain == c) xs p.0) ∙ ap (chain_of c) p.1)
+pub chain_begin : (c : ℕ) (xs ys : List HistoryEntry) → IsPrefix xs ys → IsPrefix (chain_of c xs) (chain_of c ys)
+chain_begin c xs ys p = (chain_of c p.0, sym (filter-append (λ (l : HistoryEntry). l.chain == c) xs p.0) ∙ ap (chain_of c) p.1)
 
-pub published_prefix : (xs ys : List Link) → IsPrefix xs ys → IsPrefix (publishes_of xs) (publishes_of ys)
+pub published_prefix : (xs ys : List HistoryEntry) → IsPrefix xs ys → IsPrefix (publishes_of xs) (publishes_of ys)
 published_prefix xs ys p =
     let q = chain_begin publishes_chain xs ys p in
     (publishes_in q.0, sym (publishes_append (chain_of publishes_chain xs) q.0) ∙ ap publishes_in q.1)
 
 -- as many were published by two lists as by both
-pub count_published : (xs ys : List Link) → length (publishes_of (xs ++ ys)) ≡ length (publishes_of xs) + length (publishes_of ys)
+pub count_published : (xs ys : List HistoryEntry) → length (publishes_of (xs ++ ys)) ≡ length (publishes_of xs) + length (publishes_of ys)
 count_published xs ys =
-    ap (λ (ls : List Link). length (publishes_in ls)) (filter-append (λ (l : Link). l.chain == publishes_chain) xs ys)
+    ap (λ (ls : List HistoryEntry). length (publishes_in ls)) (filter-append (λ (l : HistoryEntry). l.chain == publishes_chain) xs ys)
     ∙ (ap length (publishes_append (chain_of publishes_chain xs) (chain_of publishes_chain ys)) ∙ length-append (publishes_of xs) (publishes_of ys))
 
-pub published_few : (xs ys : List Link) → IsPrefix xs ys → length (publishes_of xs) ≤ length (publishes_of ys)
+pub published_few : (xs ys : List HistoryEntry) → IsPrefix xs ys → length (publishes_of xs) ≤ length (publishes_of ys)
 published_few xs ys p = prefix_length (publishes_of xs) (publishes_of ys) (published_prefix xs ys p)
 
 -- a publish more
-pub published_one : (pre : List Link) (l : Link) (q : ℕ) (x : Publish) → l.chain ≡ publishes_chain → l.deed ≡ Does (Publishes (q, x)) → publishes_of (pre ++ l ∷ []) ≡ publishes_of pre ++ x ∷ []
+pub published_one : (pre : List HistoryEntry) (l : HistoryEntry) (q : ℕ) (x : Publish) → l.chain ≡ publishes_chain → l.deed ≡ Does (Publishes (q, x)) → publishes_of (pre ++ l ∷ []) ≡ publishes_of pre ++ x ∷ []
 published_one pre l q x chain is =
     let here : (l.chain == publishes_chain) ≡ true = grind (arith, nat_tests, chain) in
     ap publishes_in (chain_snoc publishes_chain pre l ∙ ap (λ (b : Bool). chain_of publishes_chain pre ++ cond b (l ∷ []) []) here)
     ∙ (publishes_append (chain_of publishes_chain pre) (l ∷ []) ∙ ap (λ (d : Deed). publishes_of pre ++ with_publish d []) is)
 
 -- a deed that is no publish
-pub published_same : (pre : List Link) (l : Link) → with_publish l.deed [] ≡ [] → publishes_of (pre ++ l ∷ []) ≡ publishes_of pre
+pub published_same : (pre : List HistoryEntry) (l : HistoryEntry) → with_publish l.deed [] ≡ [] → publishes_of (pre ++ l ∷ []) ≡ publishes_of pre
 published_same pre l none = ap publishes_in (chain_snoc publishes_chain pre l) ∙ here (l.chain == publishes_chain)
   where
     here : (b : Bool) → publishes_in (chain_of publishes_chain pre ++ cond b (l ∷ []) []) ≡ publishes_of pre
@@ -169,34 +169,34 @@ published_same pre l none = ap publishes_in (chain_snoc publishes_chain pre l) �
 
 -- ---- what readers see
 
-shown_append : (xs ys : List Link) → shown_in (xs ++ ys) ≡ shown_in xs + shown_in ys
-shown_append xs ys = sum_by-append (λ (l : Link). shows l.deed) xs ys
+shown_append : (xs ys : List HistoryEntry) → shown_in (xs ++ ys) ≡ shown_in xs + shown_in ys
+shown_append xs ys = sum_by-append (λ (l : HistoryEntry). shows l.deed) xs ys
 
-pub shown_few : (xs ys : List Link) → IsPrefix xs ys → shown_in xs ≤ shown_in ys
+pub shown_few : (xs ys : List HistoryEntry) → IsPrefix xs ys → shown_in xs ≤ shown_in ys
 shown_few xs ys p = let more = shown_append xs p.0 in let all = ap shown_in p.1 in omega (arith, all, more)
 
-one_shown : (l : Link) → shown_in (l ∷ []) ≡ shows l.deed
+one_shown : (l : HistoryEntry) → shown_in (l ∷ []) ≡ shows l.deed
 one_shown l = omega arith
 
-pub shown_same : (pre : List Link) (l : Link) → shows l.deed ≡ 0 → shown_in (pre ++ l ∷ []) ≡ shown_in pre
+pub shown_same : (pre : List HistoryEntry) (l : HistoryEntry) → shows l.deed ≡ 0 → shown_in (pre ++ l ∷ []) ≡ shown_in pre
 shown_same pre l none = let more = shown_append pre (l ∷ []) in let one = one_shown l in omega (arith, more, one, none)
 
-pub shown_one : (pre : List Link) (l : Link) → l.deed ≡ Shows → shown_in (pre ++ l ∷ []) ≡ shown_in pre + 1
+pub shown_one : (pre : List HistoryEntry) (l : HistoryEntry) → l.deed ≡ Shows → shown_in (pre ++ l ∷ []) ≡ shown_in pre + 1
 shown_one pre l is = let more = shown_append pre (l ∷ []) in let one = one_shown l ∙ ap shows is in omega (arith, more, one)
 
 -- of what was published readers see as many as they see
-pub seen_count : (pre : List Link) → shown_in pre ≤ length (publishes_of pre) → length (shown_of pre) ≡ shown_in pre
+pub seen_count : (pre : List HistoryEntry) → shown_in pre ≤ length (publishes_of pre) → length (shown_of pre) ≡ shown_in pre
 seen_count pre few = length-take-le (shown_in pre) (publishes_of pre) few
 
 -- they see just those that begin what was published
-pub seen_is : (pre : List Link) (ps : List Publish) → IsPrefix ps (publishes_of pre) → length ps ≡ shown_in pre → shown_of pre ≡ ps
+pub seen_is : (pre : List HistoryEntry) (ps : List Publish) → IsPrefix ps (publishes_of pre) → length ps ≡ shown_in pre → shown_of pre ≡ ps
 seen_is pre ps p many = ap (take (shown_in pre)) (sym p.1) ∙ take_at ps p.0 (shown_in pre) many
 
-pub seen_prefix : (pre : List Link) → IsPrefix (shown_of pre) (publishes_of pre)
+pub seen_prefix : (pre : List HistoryEntry) → IsPrefix (shown_of pre) (publishes_of pre)
 seen_prefix pre = (drop (shown_in pre) (publishes_of pre), take-append-drop (shown_in pre) (publishes_of pre))
 
 -- they see what they saw
-pub seen_same : (pre : List Link) (l : Link) → shown_in pre ≤ length (publishes_of pre) → shows l.deed ≡ 0 → shown_of (pre ++ l ∷ []) ≡ shown_of pre
+pub seen_same : (pre : List HistoryEntry) (l : HistoryEntry) → shown_in pre ≤ length (publishes_of pre) → shows l.deed ≡ 0 → shown_of (pre ++ l ∷ []) ≡ shown_of pre
 seen_same pre l few none =
     seen_is (pre ++ l ∷ []) (shown_of pre)
     (prefix_trans (shown_of pre) (publishes_of pre) (publishes_of (pre ++ l ∷ [])) (seen_prefix pre) (published_prefix pre (pre ++ l ∷ []) (l ∷ [], refl)))
@@ -213,19 +213,19 @@ entry_joined (Does (Publishes x)) xs ys = refl
 entry_joined (Asks x) xs ys = refl
 entry_joined Shows xs ys = refl
 
-entries_joined : (ls ms : List Link) → entries_in (ls ++ ms) ≡ entries_in ls ++ entries_in ms
+entries_joined : (ls ms : List HistoryEntry) → entries_in (ls ++ ms) ≡ entries_in ls ++ entries_in ms
 entries_joined [] ms = refl
 entries_joined (l ∷ ls) ms = ap (with_entry l.deed) (entries_joined ls ms) ∙ entry_joined l.deed (entries_in ls) (entries_in ms)
 
 -- an entry at a bank is the last of its chain
-pub chain_entry : (k place next : ℕ) (before : List Link) (e : EntryValue) → chain_of k (before ++ link k place (Does (Leaves e)) next ∷ []) ≡ chain_of k before ++ link k place (Does (Leaves e)) next ∷ []
+pub chain_entry : (k place next : ℕ) (before : List HistoryEntry) (e : EntryValue) → chain_of k (before ++ link k place (Does (Leaves e)) next ∷ []) ≡ chain_of k before ++ link k place (Does (Leaves e)) next ∷ []
 chain_entry k place next before e =
     let l = link k place (Does (Leaves e)) next in
     let here : (k == k) ≡ true = grind (arith, nat_tests) in
     chain_snoc k before l ∙ ap (λ (b : Bool). chain_of k before ++ cond b (l ∷ []) []) here
 
 -- a deed that leaves no entry
-pub entries_same : (k : ℕ) (pre : List Link) (l : Link) → with_entry l.deed [] ≡ [] → entries_of k (pre ++ l ∷ []) ≡ entries_of k pre
+pub entries_same : (k : ℕ) (pre : List HistoryEntry) (l : HistoryEntry) → with_entry l.deed [] ≡ [] → entries_of k (pre ++ l ∷ []) ≡ entries_of k pre
 entries_same k pre l none = ap entries_in (chain_snoc k pre l) ∙ here (l.chain == k)
   where
     here : (b : Bool) → entries_in (chain_of k pre ++ cond b (l ∷ []) []) ≡ entries_of k pre
@@ -233,7 +233,7 @@ entries_same k pre l none = ap entries_in (chain_snoc k pre l) ∙ here (l.chain
     here false = ap entries_in (append-nil (chain_of k pre))
 
 -- a deed of another chain
-pub entries_elsewhere : (k : ℕ) (pre : List Link) (l : Link) → (l.chain ≡ k → ⊥) → entries_of k (pre ++ l ∷ []) ≡ entries_of k pre
+pub entries_elsewhere : (k : ℕ) (pre : List HistoryEntry) (l : HistoryEntry) → (l.chain ≡ k → ⊥) → entries_of k (pre ++ l ∷ []) ≡ entries_of k pre
 entries_elsewhere k pre l other =
     let apart : (l.chain == k) ≡ false = grind (arith, nat_tests, other) in
     ap entries_in (chain_snoc k pre l ∙ (ap (λ (b : Bool). chain_of k pre ++ cond b (l ∷ []) []) apart ∙ append-nil (chain_of k pre)))

@@ -35,7 +35,7 @@ use Rattle.node_parts.specs.Stagings.{answer_staged}
 use Rattle.node_parts.specs.Steps.{IsJudgement}
 use Rattle.annals.specs.declared.deed.Act.TheVariants.{Leaves, Publishes}
 use Rattle.annals.specs.declared.deed.Deed.TheVariants.{Shows}
-use Rattle.annals.specs.declared.deed.Link.{Link}
+use Rattle.annals.specs.declared.deed.HistoryEntry.{HistoryEntry}
 use Rattle.annals.specs.Banks.{entries_of, takes}
 use Rattle.annals.specs.Chains.{Due, done_for, instrument}
 use Rattle.annals.specs.Publishes.{publishes_chain, publishes_of}
@@ -68,26 +68,26 @@ same_some : {A : Type 0} (a b : A) → Some a ≡ Some b → a ≡ b
 same_some a b e = cc e
 
 -- a list of which readers never saw too many stays so with one link more
-listed_more : (pre : List Link) (l : Link) → AreListed pre → shown_in (pre ++ l ∷ []) ≤ length (publishes_of (pre ++ l ∷ [])) → AreListed (pre ++ l ∷ [])
+listed_more : (pre : List HistoryEntry) (l : HistoryEntry) → AreListed pre → shown_in (pre ++ l ∷ []) ≤ length (publishes_of (pre ++ l ∷ [])) → AreListed (pre ++ l ∷ [])
 listed_more pre l listed few before begins = elim (cases_lt (length pre) (length before)) [
   | inl more ↦
       let size = size_more pre l in
       let all : before ≡ pre ++ l ∷ [] = prefix_whole before (pre ++ l ∷ []) begins (omega (arith, more, size)) in
-      subst (λ (ls : List Link). shown_in ls ≤ length (publishes_of ls)) (sym all) few
+      subst (λ (ls : List HistoryEntry). shown_in ls ≤ length (publishes_of ls)) (sym all) few
   | inr short ↦ listed before (prefix_shorter before pre (pre ++ l ∷ []) begins (l ∷ [], refl) short)
 ]
 
 listed_none : AreListed []
 listed_none before begins = by before begins
   where
-    by : (before : List Link) → IsPrefix before [] → shown_in before ≤ length (publishes_of before)
+    by : (before : List HistoryEntry) → IsPrefix before [] → shown_in before ≤ length (publishes_of before)
     by [] begins = omega arith
     by (l ∷ ls) begins = absurd (cc (begins.1))
 
-few_seen : (ls : List Link) (seen published_count : ℕ) → shown_in ls ≡ seen → length (publishes_of ls) ≡ published_count → seen ≤ published_count → shown_in ls ≤ length (publishes_of ls)
+few_seen : (ls : List HistoryEntry) (seen published_count : ℕ) → shown_in ls ≡ seen → length (publishes_of ls) ≡ published_count → seen ≤ published_count → shown_in ls ≤ length (publishes_of ls)
 few_seen ls seen published_count a b few = omega (arith, a, b, few)
 
-all_seen : (ls : List Link) (count : ℕ) → shown_in ls ≡ count → length (publishes_of ls) ≡ count → length (publishes_of ls) ≤ shown_in ls
+all_seen : (ls : List HistoryEntry) (count : ℕ) → shown_in ls ≡ count → length (publishes_of ls) ≡ count → length (publishes_of ls) ≤ shown_in ls
 all_seen ls count a b = omega (arith, a, b)
 
 two_few : 2 ≤ 32

@@ -19,7 +19,7 @@ use Rattle.node_parts.specs.Loaded.{EndsAs}
 use Rattle.node_parts.specs.Loads.{IsUnprepared}
 use Rattle.node_parts.specs.Passes.{PassValue}
 use Rattle.node_parts.specs.Served.{EndsAtWindow}
-use Rattle.annals.specs.declared.deed.Link.{Link}
+use Rattle.annals.specs.declared.deed.HistoryEntry.{HistoryEntry}
 use Rattle.annals.specs.Chains.{Due, done_for}
 use Rattle.annals.specs.Shown.{AreListed, shown_in, shown_of}
 use Rattle.target.specs.Loads.{AsksForLoad}
@@ -50,7 +50,7 @@ use Rattle.lemmas.proofs.Prefixes.{prefix_length, prefix_trans}
 -- ---- what goes on
 
 -- what is common stays if nothing was published and no entry left
-common_kept : (n : Node) (q : ℕ) (pre : List Link) (h after : History) → q < n.ports → Keeps n q h after → IsLawfulExceptAnswers n after → IsCommon n pre h → IsCommon n pre after
+common_kept : (n : Node) (q : ℕ) (pre : List HistoryEntry) (h after : History) → q < n.ports → Keeps n q h after → IsLawfulExceptAnswers n after → IsCommon n pre h → IsCommon n pre after
 common_kept n q pre h after there keeps lawful common = record {
   lawful = lawful;
   known = λ some. known_kept n q h after (shown_of pre) keeps (common.known some);
@@ -85,21 +85,21 @@ of_after laws n q j p s after is was =
 -- ---- what a port does
 
 -- a port did all that it does at this place
-pub record HasSettled (n : Node) (whole : List Link) (q : ℕ) (a : Account) (pre : List Link) (h : History) : Type 0 where
+pub record HasSettled (n : Node) (whole : List HistoryEntry) (q : ℕ) (a : Account) (pre : List HistoryEntry) (h : History) : Type 0 where
   pub after : History
   pub common : IsCommon n pre after
   pub port : IsPort n whole q a true pre after None
   pub elsewhere : StaysElsewhere n q h after
 
-settled_on : (n : Node) (whole : List Link) (q : ℕ) (a : Account) (pre : List Link) (h between : History) → StaysElsewhere n q h between → HasSettled n whole q a pre between → HasSettled n whole q a pre h
+settled_on : (n : Node) (whole : List HistoryEntry) (q : ℕ) (a : Account) (pre : List HistoryEntry) (h between : History) → StaysElsewhere n q h between → HasSettled n whole q a pre between → HasSettled n whole q a pre h
 settled_on n whole q a pre h between stays it = record { after = it.after; common = it.common; port = it.port; elsewhere = elsewhere_on n q h between it.after stays it.elsewhere }
 
 -- it did nothing
-settled_here : (n : Node) (whole : List Link) (q : ℕ) (a : Account) (pre : List Link) (h : History) → IsCommon n pre h → IsPort n whole q a true pre h None → HasSettled n whole q a pre h
+settled_here : (n : Node) (whole : List HistoryEntry) (q : ℕ) (a : Account) (pre : List HistoryEntry) (h : History) → IsCommon n pre h → IsPort n whole q a true pre h None → HasSettled n whole q a pre h
 settled_here n whole q a pre h common port = record { after = h; common = common; port = port; elsewhere = elsewhere_same n q h }
 
 -- a packet that no program judged
-passed_on : (n : Node) (whole : List Link) (q : ℕ) (a : Account) (pre : List Link) (h : History) (s after : Standing) (p : Cargo) (ps : List Cargo) (d : Deed) (ds : List Deed) (idle : IsIdleBy n whole q a false pre h s (p ∷ ps) (d ∷ ds))
+passed_on : (n : Node) (whole : List HistoryEntry) (q : ℕ) (a : Account) (pre : List HistoryEntry) (h : History) (s after : Standing) (p : Cargo) (ps : List Cargo) (d : Deed) (ds : List Deed) (idle : IsIdleBy n whole q a false pre h s (p ∷ ps) (d ∷ ds))
     → (it : HasPassed n q d p h) → after ≡ s → (worked : Worked after ps ds a.last) → AreDealtInFull n after ps ds a.last worked → AreLoadsPlaced q whole after ps ds a.last worked → IsFrom (length pre) after a.last ps ds worked
     → IsIdleBy n whole q a false pre it.after after ps ds
 passed_on n whole q a pre h s after p ps d ds idle it same worked full placed from = record {
@@ -170,13 +170,13 @@ asks_none : (port : ℕ) (loaded : Option Publish) (old new : List Publish) (ask
 asks_none port loaded old new asked after is asks = subst (λ (o : Option Publish). AsksForLoad port o old new asked after) is asks
 
 -- it ended, and the port goes on with its next packet
-record HasEndedQuietly (n : Node) (whole : List Link) (q : ℕ) (a : Account) (pre : List Link) (now : History) (after : Standing) (ps : List Cargo) (ds : List Deed) : Type 0 where
+record HasEndedQuietly (n : Node) (whole : List HistoryEntry) (q : ℕ) (a : Account) (pre : List HistoryEntry) (now : History) (after : Standing) (ps : List Cargo) (ds : List Deed) : Type 0 where
   following : History
   common : IsCommon n pre following
   idle : IsIdleBy n whole q a false pre following after ps ds
   elsewhere : StaysElsewhere n q now following
 
-quiet_end : Laws → (n : Node) (whole : List Link) (q : ℕ) (a : Account) (pre : List Link) (now : History) (x : IsOpen n whole q a) → q < n.ports → IsOpenNow n whole q a now x → IsCommon n pre now → IsKnown n now x.is.between.programs
+quiet_end : Laws → (n : Node) (whole : List HistoryEntry) (q : ℕ) (a : Account) (pre : List HistoryEntry) (now : History) (x : IsOpen n whole q a) → q < n.ports → IsOpenNow n whole q a now x → IsCommon n pre now → IsKnown n now x.is.between.programs
     → length n.firsts < shown_in pre → shown_of pre ≡ x.is.between.programs → length (done_for q pre) ≡ length x.s.asked → length pre ≤ length x.is.reached → PublishesNone x.j x.p x.s x.after x.is
     → HasEndedQuietly n whole q a pre now x.after x.ps x.ds
 quiet_end laws n whole q a pre now x there here common known some seen acts few quiet =
@@ -248,7 +248,7 @@ quiet_end laws n whole q a pre now x there here common known some seen acts few 
 -- ---- what one port does
 
 -- what is to come of a port is a judged command that is taken later, or nothing
-still_port : (n : Node) (whole : List Link) (q : ℕ) (a : Account) (pre : List Link) (h : History) (s : Standing) (ps : List Cargo) (ds : List Deed) (idle : IsIdleBy n whole q a false pre h s ps ds)
+still_port : (n : Node) (whole : List HistoryEntry) (q : ℕ) (a : Account) (pre : List HistoryEntry) (h : History) (s : Standing) (ps : List Cargo) (ds : List Deed) (idle : IsIdleBy n whole q a false pre h s ps ds)
     → IsFrom (length pre + 1) s a.last ps ds idle.worked → IsStill ps ds → IsPort n whole q a true pre h None
 still_port n whole q a pre h s ps ds idle from still = record {
   at = inl (record {
@@ -272,11 +272,11 @@ still_port n whole q a pre h s ps ds idle from still = record {
 }
 
 -- the place at which the next command is taken
-taken_here : (pre at whole : List Link) → IsPrefix pre whole → IsPrefix at whole → length pre ≤ length at → length at ≤ length pre → at ≡ pre
+taken_here : (pre at whole : List HistoryEntry) → IsPrefix pre whole → IsPrefix at whole → length pre ≤ length at → length at ≤ length pre → at ≡ pre
 taken_here pre at whole stands at_stands low high = same_begin at pre whole at_stands stands (omega (arith, low, high))
 
 -- a judged command comes next: it is taken here, or later
-judged_next : Laws → (n : Node) (whole : List Link) (q : ℕ) (a : Account) (pre : List Link) (h : History) (s after : Standing) (p : Cargo) (j : Judging) (ps : List Cargo) (ds : List Deed) → q < n.ports → AreListed whole → IsPrefix pre whole → IsPrefix after.front whole
+judged_next : Laws → (n : Node) (whole : List HistoryEntry) (q : ℕ) (a : Account) (pre : List HistoryEntry) (h : History) (s after : Standing) (p : Cargo) (j : Judging) (ps : List Cargo) (ds : List Deed) → q < n.ports → AreListed whole → IsPrefix pre whole → IsPrefix after.front whole
     → (is : IsJudgedInRun j p s after) → IsJudgedInFull s after j → IsLoadPlaced q whole j p s after is → (worked : Worked after ps ds a.last) → AreDealtInFull n after ps ds a.last worked → AreLoadsPlaced q whole after ps ds a.last worked
     → length pre ≤ length is.moment.at → (length pre < length is.moment.at → IsPort n whole q a true pre h None) → IsIdleBy n whole q a false pre h s (p ∷ ps) (Judged j ∷ ds) → IsCommon n pre h
     → ((later : History) → IsIdleBy n whole q a false pre later after ps ds → IsCommon n pre later → HasSettled n whole q a pre later) → HasSettled n whole q a pre h
@@ -344,7 +344,7 @@ judged_next laws n whole q a pre h s after p j ps ds there listed stands front i
         ])
 
 -- a port does all that it does at this place
-settle : Laws → (n : Node) (whole : List Link) (q : ℕ) (a : Account) (pre : List Link) → q < n.ports → AreListed whole → IsPrefix pre whole → IsPrefix a.last.front whole
+settle : Laws → (n : Node) (whole : List HistoryEntry) (q : ℕ) (a : Account) (pre : List HistoryEntry) → q < n.ports → AreListed whole → IsPrefix pre whole → IsPrefix a.last.front whole
     → (ps : List Cargo) (ds : List Deed) (h : History) (s : Standing) → IsIdleBy n whole q a false pre h s ps ds → IsCommon n pre h → HasSettled n whole q a pre h
 settle laws n whole q a pre there listed stands begins [] [] h s idle common =
     settled_here n whole q a pre h common (still_port n whole q a pre h s [] [] idle tt tt)
@@ -372,26 +372,26 @@ settle laws n whole q a pre there listed stands begins (p ∷ ps) (Judged j ∷ 
 -- ---- what all ports do
 
 -- the ports below that number did all that they do at this place, and the others did nothing
-record HaveSettledBelow (n : Node) (accounts : ℕ → Account) (whole pre : List Link) (waits : ℕ → Option ℕ) (m : ℕ) : Type 0 where
+record HaveSettledBelow (n : Node) (accounts : ℕ → Account) (whole pre : List HistoryEntry) (waits : ℕ → Option ℕ) (m : ℕ) : Type 0 where
   after : History
   common : IsCommon n pre after
   below : (q : ℕ) → q < m → q < n.ports → IsPort n whole q (accounts q) true pre after (waits q)
   above : (q : ℕ) → m ≤ q → q < n.ports → IsPort n whole q (accounts q) false pre after (waits q)
 
 -- one port did all that it does at this place, and waits for what it waited for
-record HasSettledAs (n : Node) (whole : List Link) (q : ℕ) (a : Account) (pre : List Link) (h : History) (wait : Option ℕ) : Type 0 where
+record HasSettledAs (n : Node) (whole : List HistoryEntry) (q : ℕ) (a : Account) (pre : List HistoryEntry) (h : History) (wait : Option ℕ) : Type 0 where
   after : History
   common : IsCommon n pre after
   port : IsPort n whole q a true pre after wait
   elsewhere : StaysElsewhere n q h after
 
-wait_same : (n : Node) (whole : List Link) (q : ℕ) (a : Account) (pre : List Link) (h : History) (x : IsToEnter n whole q a pre h ⊎ (IsToPublish n whole q a pre h ⊎ IsToShow n whole q a pre h))
+wait_same : (n : Node) (whole : List HistoryEntry) (q : ℕ) (a : Account) (pre : List HistoryEntry) (h : History) (x : IsToEnter n whole q a pre h ⊎ (IsToPublish n whole q a pre h ⊎ IsToShow n whole q a pre h))
     → waits_for n whole q a true pre h (inr x) ≡ waits_for n whole q a false pre h (inr x)
 wait_same n whole q a pre h (inl x) = refl
 wait_same n whole q a pre h (inr (inl x)) = refl
 wait_same n whole q a pre h (inr (inr x)) = refl
 
-one_settled : Laws → (n : Node) (whole : List Link) (q : ℕ) (a : Account) (pre : List Link) (h : History) (wait : Option ℕ) → q < n.ports → AreListed whole → IsPrefix pre whole → IsPrefix a.last.front whole → IsCommon n pre h
+one_settled : Laws → (n : Node) (whole : List HistoryEntry) (q : ℕ) (a : Account) (pre : List HistoryEntry) (h : History) (wait : Option ℕ) → q < n.ports → AreListed whole → IsPrefix pre whole → IsPrefix a.last.front whole → IsCommon n pre h
     → IsPort n whole q a false pre h wait → HasSettledAs n whole q a pre h wait
 one_settled laws n whole q a pre h wait there listed stands begins common port = by port.at port.wait_is
   where
@@ -401,7 +401,7 @@ one_settled laws n whole q a pre h wait there listed stands begins common port =
         record { after = it.after; common = it.common; port = record { at = it.port.at; wait_is = it.port.wait_is ∙ is }; elsewhere = it.elsewhere }
     by (inr x) is = record { after = h; common = common; port = record { at = inr x; wait_is = wait_same n whole q a pre h x ∙ is }; elsewhere = elsewhere_same n q h }
 
-settle_below : Laws → (n : Node) (accounts : ℕ → Account) (whole pre : List Link) (h : History) (waits : ℕ → Option ℕ) → AreListed whole → IsPrefix pre whole → ((q : ℕ) → q < n.ports → IsPrefix (accounts q).last.front whole) → IsCommon n pre h
+settle_below : Laws → (n : Node) (accounts : ℕ → Account) (whole pre : List HistoryEntry) (h : History) (waits : ℕ → Option ℕ) → AreListed whole → IsPrefix pre whole → ((q : ℕ) → q < n.ports → IsPrefix (accounts q).last.front whole) → IsCommon n pre h
     → ((q : ℕ) → q < n.ports → IsPort n whole q (accounts q) false pre h (waits q)) → (m : ℕ) → m ≤ n.ports → HaveSettledBelow n accounts whole pre waits m
 settle_below laws n accounts whole pre h waits listed stands begins common ports zero few = record {
   after = h;
@@ -426,7 +426,7 @@ settle_below laws n accounts whole pre h waits listed stands begins common ports
     }
 
 -- all ports did all that they do at this place
-pub all_settled : Laws → (n : Node) (accounts : ℕ → Account) (whole : List Link) (firsts : List Publish) (pre : List Link) (h : History) (waits : ℕ → Option ℕ) → AreListed whole → IsPrefix pre whole
+pub all_settled : Laws → (n : Node) (accounts : ℕ → Account) (whole : List HistoryEntry) (firsts : List Publish) (pre : List HistoryEntry) (h : History) (waits : ℕ → Option ℕ) → AreListed whole → IsPrefix pre whole
     → ((q : ℕ) → q < n.ports → IsPrefix (accounts q).last.front whole) → IsWorld n accounts whole firsts false pre h waits → (after : History) × IsWorld n accounts whole firsts true pre after waits
 all_settled laws n accounts whole firsts pre h waits listed stands begins world =
     let it = settle_below laws n accounts whole pre h waits listed stands begins world.common world.ports n.ports (omega arith) in (

@@ -18,7 +18,7 @@ use Rattle.brun.specs.declared.turns.Turn.TheVariants as turns
 use Rattle.annals.specs.declared.deed.Act.TheVariants.{Leaves, Sets, Rotates, Publishes}
 use Rattle.annals.specs.declared.deed.Deed.{Deed}
 use Rattle.annals.specs.declared.deed.Deed.TheVariants.{Opens, Does, Asks, Shows}
-use Rattle.annals.specs.declared.deed.Link.{Link}
+use Rattle.annals.specs.declared.deed.HistoryEntry.{HistoryEntry}
 use Rattle.annals.specs.Banks.{after_deed, after_link, answer_after, entries_in, entries_of, memory_after, with_entry, zeros}
 use Rattle.annals.specs.Chains.{chain_of, link}
 use Rattle.node_parts.specs.declared.config.BankConfig.{BankConfig}
@@ -51,19 +51,19 @@ is_entry (Does (Publishes x)) is = absurd is
 is_entry (Asks x) is = absurd is
 is_entry Shows is = absurd is
 
-first_entries : (xs ys : List Link) → AreSomeEntries (xs ++ ys) → AreSomeEntries xs
+first_entries : (xs ys : List HistoryEntry) → AreSomeEntries (xs ++ ys) → AreSomeEntries xs
 first_entries [] ys all = tt
 first_entries (x ∷ xs) ys all = (all.0, first_entries xs ys all.1)
 
 -- as many entries as deeds
-count_entries : (ls : List Link) → AreSomeEntries ls → length (entries_in ls) ≡ length ls
+count_entries : (ls : List HistoryEntry) → AreSomeEntries ls → length (entries_in ls) ≡ length ls
 count_entries [] all = refl
 count_entries (l ∷ ls) all =
     let that = is_entry l.deed all.0 in
     ap (λ (d : Deed). length (with_entry d (entries_in ls))) that.is ∙ ap suc (count_entries ls all.1)
 
 -- what they leave of a memory is their replay
-replay_entries : (m : Memory) (ls : List Link) → AreSomeEntries ls → fold after_link m ls ≡ replay m (entries_in ls)
+replay_entries : (m : Memory) (ls : List HistoryEntry) → AreSomeEntries ls → fold after_link m ls ≡ replay m (entries_in ls)
 replay_entries m [] all = refl
 replay_entries m (l ∷ ls) all =
     let that = is_entry l.deed all.0 in
@@ -72,14 +72,14 @@ replay_entries m (l ∷ ls) all =
 
 -- ---- the bank at a moment
 
-pub record IsBankSoFar (k : ℕ) (bank : BankConfig) (before : List Link) : Type 0 where
+pub record IsBankSoFar (k : ℕ) (bank : BankConfig) (before : List HistoryEntry) : Type 0 where
   pub few : length (entries_of k before) ≤ bank.room
   pub memory : (chain_of k before ≡ [] → ⊥) → memory_after k before ≡ replay (first_memory (Some bank)) (entries_of k before)
 
-pub bank_so_far : (k : ℕ) (bank : BankConfig) (before whole : List Link) → IsBankOfPorts k bank whole → IsPrefix before whole → IsBankSoFar k bank before
+pub bank_so_far : (k : ℕ) (bank : BankConfig) (before whole : List HistoryEntry) → IsBankOfPorts k bank whole → IsPrefix before whole → IsBankSoFar k bank before
 bank_so_far k bank before whole is begins = let q = chain_begin k before whole begins in by q.0 q.1 (chain_of k before) refl
   where
-    by : (rest : List Link) → chain_of k before ++ rest ≡ chain_of k whole → (ls : List Link) → chain_of k before ≡ ls → IsBankSoFar k bank before
+    by : (rest : List HistoryEntry) → chain_of k before ++ rest ≡ chain_of k whole → (ls : List HistoryEntry) → chain_of k before ≡ ls → IsBankSoFar k bank before
     by rest all [] here =
         let none : entries_of k before ≡ [] = ap entries_in here in
         record {
@@ -87,7 +87,7 @@ bank_so_far k bank before whole is begins = let q = chain_begin k before whole b
           memory = λ some. absurd (some here);
         }
     by rest all (l ∷ ls) here =
-        let chain : IsChainOf bank (l ∷ (ls ++ rest)) = subst (IsChainOf bank) (sym all ∙ ap (λ (xs : List Link). xs ++ rest) here) is.chain in
+        let chain : IsChainOf bank (l ∷ (ls ++ rest)) = subst (IsChainOf bank) (sym all ∙ ap (λ (xs : List HistoryEntry). xs ++ rest) here) is.chain in
         let left : AreSomeEntries ls = first_entries ls rest chain.1 in
         let entries_are : entries_of k before ≡ entries_in ls = ap entries_in here ∙ ap (λ (d : Deed). with_entry d (entries_in ls)) chain.0 in
         let count : length (entries_of k before) ≡ length ls = ap length entries_are ∙ count_entries ls left in
@@ -102,12 +102,12 @@ bank_so_far k bank before whole is begins = let q = chain_begin k before whole b
         }
 
 -- a bank that has an entry had begun before that
-begun : (k place next : ℕ) (bank : BankConfig) (before whole : List Link) (e : EntryValue) → IsBankOfPorts k bank whole → IsPrefix (before ++ link k place (Does (Leaves e)) next ∷ []) whole → chain_of k before ≡ [] → ⊥
+begun : (k place next : ℕ) (bank : BankConfig) (before whole : List HistoryEntry) (e : EntryValue) → IsBankOfPorts k bank whole → IsPrefix (before ++ link k place (Does (Leaves e)) next ∷ []) whole → chain_of k before ≡ [] → ⊥
 begun k place next bank before whole e is begins none =
     let l = link k place (Does (Leaves e)) next in
     let q = chain_begin k (before ++ l ∷ []) whole begins in
-    let first : chain_of k (before ++ l ∷ []) ≡ l ∷ [] = chain_entry k place next before e ∙ ap (λ (ls : List Link). ls ++ l ∷ []) none in
-    let chain : IsChainOf bank (l ∷ q.0) = subst (IsChainOf bank) (sym q.1 ∙ ap (λ (ls : List Link). ls ++ q.0) first) is.chain in
+    let first : chain_of k (before ++ l ∷ []) ≡ l ∷ [] = chain_entry k place next before e ∙ ap (λ (ls : List HistoryEntry). ls ++ l ∷ []) none in
+    let chain : IsChainOf bank (l ∷ q.0) = subst (IsChainOf bank) (sym q.1 ∙ ap (λ (ls : List HistoryEntry). ls ++ q.0) first) is.chain in
     not_begun e (bank.base, bank.size, bank.room) chain.0
 
 one_number : (port : ℕ) (e : EntryValue) (es : List EntryValue) (b : Bool) → length (numbers_of port es) ≤ length es
@@ -126,13 +126,13 @@ below : (x y z : ℕ) → x + 1 ≤ y → y < z → x < z - 1
 below x y z a b = omega (arith, a, b)
 
 -- The end of a command at a bank is lawful. The bank then has the entries that the list has of it.
-pub record EndsWithEntry (n : Node) (port k : ℕ) (now : History) (o : Open) (reply : List ℕ) (after : List Link) : Type 0 where
+pub record EndsWithEntry (n : Node) (port k : ℕ) (now : History) (o : Open) (reply : List ℕ) (after : List HistoryEntry) : Type 0 where
   pub status : Status
   pub outcome : IsOutcomeAtExceptAnswer n now (Effect port) (Done status reply None)
   pub own : entries n (Then now (Effect port) (Done status reply None)) k ≡ entries_of k after
   pub others : (m : ℕ) → (m ≡ k → ⊥) → entries n (Then now (Effect port) (Done status reply None)) m ≡ entries n now m
 
-pub entry_thus : (n : Node) (port k : ℕ) (bank : BankConfig) (whole : List Link) (now : History) (o : Open) (j : Judging) (h after : Standing) → slice_get n.banks k ≡ Some bank → IsBankOfPorts k bank whole
+pub entry_thus : (n : Node) (port k : ℕ) (bank : BankConfig) (whole : List HistoryEntry) (now : History) (o : Open) (j : Judging) (h after : Standing) → slice_get n.banks k ≡ Some bank → IsBankOfPorts k bank whole
     → opened now port ≡ Some o → turn_of n port o ≡ Some (turns.Verdict j.judged.verdict) → place_in n o.packet ≡ Some j.judged.place → j.judged.packet ≡ o.packet
     → o.generation ≡ j.judged.generation → j.judged.port ≡ port → j.judged.place ≡ places.Bank k → (done : IsDoneAt k j h after) → IsPrefix after.front whole → entries n now k ≡ entries_of k done.before
     → EndsWithEntry n port k now o j.reply after.front
@@ -142,7 +142,7 @@ entry_thus n port k bank whole now o j h after there bank_is is_open stands at_p
     let before = done.before in
     let e = entry_of done.share j.judged done.status in
     let l = link k (length (chain_of k before)) (Does (Leaves e)) done.next in
-    let stands_at : IsPrefix (before ++ l ∷ []) whole = subst (λ (ls : List Link). IsPrefix ls whole) done.log begins in
+    let stands_at : IsPrefix (before ++ l ∷ []) whole = subst (λ (ls : List HistoryEntry). IsPrefix ls whole) done.log begins in
     let begins_before : IsPrefix before whole = front_of before whole l stands_at in
     let so_before = bank_so_far k bank before whole bank_is begins_before in
     let later = bank_so_far k bank after.front whole bank_is begins in

@@ -18,7 +18,7 @@ use Rattle.annals.specs.declared.deed.Act.{Act}
 use Rattle.annals.specs.declared.deed.Act.TheVariants.{Leaves, Publishes}
 use Rattle.annals.specs.declared.deed.Deed.{Deed as LinkDeed}
 use Rattle.annals.specs.declared.deed.Deed.TheVariants.{Does, Shows}
-use Rattle.annals.specs.declared.deed.Link.{Link}
+use Rattle.annals.specs.declared.deed.HistoryEntry.{HistoryEntry}
 use Rattle.annals.specs.Banks.{entries_of, with_entry}
 use Rattle.annals.specs.Chains.{chain_of, done_for, link, owner_of}
 use Rattle.annals.specs.Publishes.{publishes_of}
@@ -46,7 +46,7 @@ use Rattle.lawful.proofs.Worlds.{IsCommon, IsIdleAt, IsOpen, IsPort, IsPortAt, I
 use Rattle.lemmas.proofs.Prefixes.{prefix_length, prefix_shorter, prefix_trans}
 
 -- what a port did by a link, as a history goes on
-pub record HasStepped (n : Node) (whole : List Link) (q : ℕ) (a : Account) (pre : List Link) (l : Link) (h : History) (wait : Option ℕ) : Type 0 where
+pub record HasStepped (n : Node) (whole : List HistoryEntry) (q : ℕ) (a : Account) (pre : List HistoryEntry) (l : HistoryEntry) (h : History) (wait : Option ℕ) : Type 0 where
   pub after : History
   pub common : IsCommon n (pre ++ l ∷ []) after
   pub port : IsPort n whole q a false (pre ++ l ∷ []) after wait
@@ -54,7 +54,7 @@ pub record HasStepped (n : Node) (whole : List Link) (q : ℕ) (a : Account) (pr
 
 -- ---- what a port has not done
 
-module _ (laws : Laws) (n : Node) (whole : List Link) (q : ℕ) (a : Account) (pre : List Link) (l : Link) (listed : AreListed whole) (stands : IsPrefix (pre ++ l ∷ []) whole) (begins : IsPrefix a.last.front whole)
+module _ (laws : Laws) (n : Node) (whole : List HistoryEntry) (q : ℕ) (a : Account) (pre : List HistoryEntry) (l : HistoryEntry) (listed : AreListed whole) (stands : IsPrefix (pre ++ l ∷ []) whole) (begins : IsPrefix a.last.front whole)
     (did : length (done_for q whole) ≤ length a.last.asked) where
   before_it : IsPrefix pre whole
   before_it = front_of pre whole l stands
@@ -127,7 +127,7 @@ module _ (laws : Laws) (n : Node) (whole : List Link) (q : ℕ) (a : Account) (p
     | inl less ↦ omega (arith, less, size_here)
     | inr high ↦
         let that = at_place it.before pre whole it.item l it.stands stands (omega (arith, low, high)) in
-        absurd (none_not q l.deed it.act (ap (λ (x : Link). x.deed) (sym that.item) ∙ it.deed) it.own none)
+        absurd (none_not q l.deed it.act (ap (λ (x : HistoryEntry). x.deed) (sym that.item) ∙ it.deed) it.own none)
   ]
 
   pub port_further : (h : History) (wait : Option ℕ) → IsNoneOf q l.deed → ((number : ℕ) → wait ≡ Some number → shown_in pre ≤ number → IsToShow n whole q a pre h → shown_in (pre ++ l ∷ []) ≤ number)
@@ -207,7 +207,7 @@ module _ (laws : Laws) (n : Node) (whole : List Link) (q : ℕ) (a : Account) (p
       let c = command_in n whole q a o in
       let middle = stand is.between s.asked is.reached in
       let that = at_place it.before pre whole it.item l it.stands stands same in
-      let all : after.front ≡ pre ++ l ∷ [] = done.log ∙ (ap (λ (ls : List Link). ls ++ it.item ∷ []) that.front ∙ ap (λ (i : Link). pre ++ i ∷ []) that.item) in
+      let all : after.front ≡ pre ++ l ∷ [] = done.log ∙ (ap (λ (ls : List HistoryEntry). ls ++ it.item ∷ []) that.front ∙ ap (λ (i : HistoryEntry). pre ++ i ∷ []) that.item) in
       let placed = is.judgement.judged_for.placed.inside k entry.banked.place in
       let bank = there_at n.banks k (subst (λ (w : WindowsValue). k < length w.banks) o.mine.windows placed.below) in
       let port_is : j.judged.port ≡ q = is.judgement.judged_for.port_of ∙ o.mine.port_is in
@@ -218,8 +218,8 @@ module _ (laws : Laws) (n : Node) (whole : List Link) (q : ℕ) (a : Account) (p
       let e = Effect q in
       let next = Then h e outcome in
       let stays = one_elsewhere n h e outcome q refl in
-      let deed : l.deed ≡ Does (Leaves (entry_of done.share j.judged done.status)) = ap (λ (i : Link). i.deed) (sym that.item) in
-      let chain : l.chain ≡ k = ap (λ (i : Link). i.chain) (sym that.item) in
+      let deed : l.deed ≡ Does (Leaves (entry_of done.share j.judged done.status)) = ap (λ (i : HistoryEntry). i.deed) (sym that.item) in
+      let chain : l.chain ≡ k = ap (λ (i : HistoryEntry). i.chain) (sym that.item) in
       let quiet : shows l.deed ≡ 0 = ap shows deed in
       let seen : shown_of (pre ++ l ∷ []) ≡ shown_of pre = seen_same pre l few_here quiet in
       let count : shown_in (pre ++ l ∷ []) ≡ shown_in pre = shown_same pre l quiet in
@@ -283,10 +283,10 @@ module _ (laws : Laws) (n : Node) (whole : List Link) (q : ℕ) (a : Account) (p
       let o = x.open_at in
       let it = load_acted q whole o.j o.p o.s o.after o.is x.one in
       let that = at_place it.before pre whole it.item l it.stands stands same in
-      let deed : l.deed ≡ Does (Publishes (q, x.one.publish)) = ap (λ (i : Link). i.deed) (sym that.item) ∙ x.one.placed.deed in
+      let deed : l.deed ≡ Does (Publishes (q, x.one.publish)) = ap (λ (i : HistoryEntry). i.deed) (sym that.item) ∙ x.one.placed.deed in
       let one = done_one q pre l (Publishes (q, x.one.publish)) deed refl in
       let acts = x.acts in
-      let met : length (publishes_of pre) ≡ length x.one.windowed.old = ap (λ (ls : List Link). length (publishes_of ls)) (sym that.front) ∙ ap length x.one.placed.met in
+      let met : length (publishes_of pre) ≡ length x.one.windowed.old = ap (λ (ls : List HistoryEntry). length (publishes_of ls)) (sym that.front) ∙ ap length x.one.placed.met in
       let quiet = shown_same pre l (ap shows deed) in
       let few = few_here in (
         record {

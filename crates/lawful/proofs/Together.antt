@@ -12,7 +12,7 @@ use Rattle.annals.specs.declared.deed.Act.{Act}
 use Rattle.annals.specs.declared.deed.Act.TheVariants.{Publishes}
 use Rattle.annals.specs.declared.deed.Deed.{Deed as LinkDeed}
 use Rattle.annals.specs.declared.deed.Deed.TheVariants.{Opens, Does, Asks, Shows}
-use Rattle.annals.specs.declared.deed.Link.{Link}
+use Rattle.annals.specs.declared.deed.HistoryEntry.{HistoryEntry}
 use Rattle.annals.specs.Banks.{with_entry}
 use Rattle.annals.specs.Chains.{Due, done_for, instrument, owner_of}
 use Rattle.annals.specs.Publishes.{publishes_chain, publishes_of, with_publish}
@@ -66,7 +66,7 @@ same_owner q r a b eq = sym (ap deed_owner eq)
 -- ---- one link
 
 -- all ports after that link
-record HaveStepped (n : Node) (accounts : ℕ → Account) (whole : List Link) (firsts : List Publish) (pre : List Link) (l : Link) : Type 0 where
+record HaveStepped (n : Node) (accounts : ℕ → Account) (whole : List HistoryEntry) (firsts : List Publish) (pre : List HistoryEntry) (l : HistoryEntry) : Type 0 where
   after : History
   waits : ℕ → Option ℕ
   world : IsWorld n accounts whole firsts false (pre ++ l ∷ []) after waits
@@ -74,12 +74,12 @@ record HaveStepped (n : Node) (accounts : ℕ → Account) (whole : List Link) (
 -- ---- the programs that the node begins with
 
 -- after as many were published, those come first
-all_begun : (firsts : List Publish) (pre : List Link) → IsBeginning firsts pre ⊎ IsBegun firsts pre → length firsts ≤ length (publishes_of pre) → IsPrefix firsts (publishes_of pre)
+all_begun : (firsts : List Publish) (pre : List HistoryEntry) → IsBeginning firsts pre ⊎ IsBegun firsts pre → length firsts ≤ length (publishes_of pre) → IsPrefix firsts (publishes_of pre)
 all_begun firsts pre (inl x) many = prefix_same firsts (publishes_of pre) (prefix_whole (publishes_of pre) firsts x.programs many)
 all_begun firsts pre (inr x) many = x.programs
 
 -- and by then the instrument did all that it does
-all_did : (firsts : List Publish) (pre : List Link) → IsBeginning firsts pre ⊎ IsBegun firsts pre → length firsts ≤ length (publishes_of pre) → length (done_for instrument pre) ≡ length firsts
+all_did : (firsts : List Publish) (pre : List HistoryEntry) → IsBeginning firsts pre ⊎ IsBegun firsts pre → length firsts ≤ length (publishes_of pre) → length (done_for instrument pre) ≡ length firsts
 all_did firsts pre (inl x) many = x.did ∙ ap length (prefix_whole (publishes_of pre) firsts x.programs many)
 all_did firsts pre (inr x) many = x.did
 
@@ -105,7 +105,7 @@ next_first (f ∷ fs) (e ∷ done) (d ∷ dues) x begins stands same =
     let head : e ≡ f = cc (begins.1) in
     record { next = rest.next; is = rest.is; begins = (rest.begins.0, cc (head, rest.begins.1)) }
 
-module _ (laws : Laws) (n : Node) (accounts : ℕ → Account) (whole : List Link) (served : AreServedTogether n accounts whole) where
+module _ (laws : Laws) (n : Node) (accounts : ℕ → Account) (whole : List HistoryEntry) (served : AreServedTogether n accounts whole) where
   abbrev firsts_all : List Publish
   firsts_all = served.factory ∷ served.firsts
 
@@ -127,7 +127,7 @@ module _ (laws : Laws) (n : Node) (accounts : ℕ → Account) (whole : List Lin
   did : (q : ℕ) → q < n.ports → length (done_for q whole) ≤ length (accounts q).last.asked
   did q there = let same = ap length (served.each q there).did in omega (arith, same)
 
-  module _ (pre : List Link) (l : Link) (stands : IsPrefix (pre ++ l ∷ []) whole) (h : History) (waits : ℕ → Option ℕ) (world : IsWorld n accounts whole firsts_all true pre h waits) where
+  module _ (pre : List HistoryEntry) (l : HistoryEntry) (stands : IsPrefix (pre ++ l ∷ []) whole) (h : History) (waits : ℕ → Option ℕ) (world : IsWorld n accounts whole firsts_all true pre h waits) where
     few_pre : shown_in pre ≤ length (publishes_of pre)
     few_pre = served.listed pre (front_of pre whole l stands)
 
@@ -227,7 +227,7 @@ module _ (laws : Laws) (n : Node) (accounts : ℕ → Account) (whole : List Lin
           entry_publishes x low high =
               let it = enter_acted n whole q (accounts q) x.open_at x.entry (front_open n whole q (accounts q) x.open_at (begins q there)) in
               let that = at_place it.before pre whole it.item l it.stands stands (omega (arith, low, high)) in
-              ap (λ (i : Link). with_publish i.deed []) (sym that.item)
+              ap (λ (i : HistoryEntry). with_publish i.deed []) (sym that.item)
 
       published_now : IsToPublish n whole q (accounts q) pre h → None ≡ waits q → HaveStepped n accounts whole firsts_all pre l
       published_now x none =
@@ -246,10 +246,10 @@ module _ (laws : Laws) (n : Node) (accounts : ℕ → Account) (whole : List Lin
           let met : publishes_of pre ≡ x.one.windowed.old = ap publishes_of (sym that.front) ∙ x.one.placed.met in
           let met_count = ap length met in
           let one : publishes_of (pre ++ l ∷ []) ≡ publishes_of pre ++ x.one.publish ∷ [] =
-          published_one pre l q x.one.publish (ap (λ (i : Link). i.chain) (sym that.item) ∙ x.one.placed.chain) (ap (λ (i : Link). i.deed) (sym that.item) ∙ x.one.placed.deed) in
+          published_one pre l q x.one.publish (ap (λ (i : HistoryEntry). i.chain) (sym that.item) ∙ x.one.placed.chain) (ap (λ (i : HistoryEntry). i.deed) (sym that.item) ∙ x.one.placed.deed) in
           let more = ap length one ∙ size_more (publishes_of pre) x.one.publish in
           let quiet = shown_same pre l does_quiet in
-          let no_entry : with_entry l.deed [] ≡ [] = ap (λ (i : Link). with_entry i.deed []) (sym that.item) ∙ ap (λ (d : LinkDeed). with_entry d []) x.one.placed.deed in
+          let no_entry : with_entry l.deed [] ≡ [] = ap (λ (i : HistoryEntry). with_entry i.deed []) (sym that.item) ∙ ap (λ (d : LinkDeed). with_entry d []) x.one.placed.deed in
           let next = set_wait q (Some number) waits in
           let acts = ap length (done_same instrument pre l (not_theirs instrument not_instrument)) in
           let some : length n.firsts < number = old_some x in
@@ -434,10 +434,10 @@ module _ (laws : Laws) (n : Node) (accounts : ℕ → Account) (whole : List Lin
           let met_x = ap length x.one.placed.met in
           let met_y = ap length y.one.placed.met in
           let that = at_place ax.before ay.before whole ax.item ay.item ax.stands ay.stands (no_other ax.before ay.before q r x.one.publish y.one.publish ax.item ay.item x.one.placed.chain x.one.placed.deed y.one.placed.chain y.one.placed.deed ax.stands ay.stands (omega (arith, met_x, met_y, same))) in
-          same_owner q r x.one.publish y.one.publish (sym x.one.placed.deed ∙ (ap (λ (i : Link). i.deed) that.item ∙ y.one.placed.deed))
+          same_owner q r x.one.publish y.one.publish (sym x.one.placed.deed ∙ (ap (λ (i : HistoryEntry). i.deed) that.item ∙ y.one.placed.deed))
         where
           -- if as many publishes are before a publish as before another, it is that one
-          not_before : (b c : List Link) (q : ℕ) (a : Publish) (i : Link) → i.chain ≡ publishes_chain → i.deed ≡ Does (Publishes (q, a)) → IsPrefix (b ++ i ∷ []) whole → IsPrefix c whole → length (publishes_of b) ≡ length (publishes_of c) → length c ≤ length b
+          not_before : (b c : List HistoryEntry) (q : ℕ) (a : Publish) (i : HistoryEntry) → i.chain ≡ publishes_chain → i.deed ≡ Does (Publishes (q, a)) → IsPrefix (b ++ i ∷ []) whole → IsPrefix c whole → length (publishes_of b) ≡ length (publishes_of c) → length c ≤ length b
           not_before b c q a i chain deed b_stands c_stands same_count = elim (cases_lt (length b) (length c)) [
             | inl less ↦
                 let few = published_few (b ++ i ∷ []) c (longer_has b c whole i b_stands c_stands less) in
@@ -446,7 +446,7 @@ module _ (laws : Laws) (n : Node) (accounts : ℕ → Account) (whole : List Lin
             | inr high ↦ high
           ]
 
-          no_other : (b c : List Link) (q r : ℕ) (a d : Publish) (i k : Link) → i.chain ≡ publishes_chain → i.deed ≡ Does (Publishes (q, a)) → k.chain ≡ publishes_chain → k.deed ≡ Does (Publishes (r, d)) → IsPrefix (b ++ i ∷ []) whole → IsPrefix (c ++ k ∷ []) whole
+          no_other : (b c : List HistoryEntry) (q r : ℕ) (a d : Publish) (i k : HistoryEntry) → i.chain ≡ publishes_chain → i.deed ≡ Does (Publishes (q, a)) → k.chain ≡ publishes_chain → k.deed ≡ Does (Publishes (r, d)) → IsPrefix (b ++ i ∷ []) whole → IsPrefix (c ++ k ∷ []) whole
               → length (publishes_of b) ≡ length (publishes_of c) → length b ≡ length c
           no_other b c q r a d i k chain_i deed_i chain_k deed_k b_stands c_stands same_count =
               let low = not_before b c q a i chain_i deed_i b_stands (front_of c whole k c_stands) same_count in
@@ -533,11 +533,11 @@ module _ (laws : Laws) (n : Node) (accounts : ℕ → Account) (whole : List Lin
   -- ---- all links
 
   -- all ports after the list, each of which did all that it does
-  walk : (pre post : List Link) (h : History) (waits : ℕ → Option ℕ) → pre ++ post ≡ whole → IsWorld n accounts whole firsts_all false pre h waits → (after : History) × (waiting : ℕ → Option ℕ) × IsWorld n accounts whole firsts_all true whole after waiting
+  walk : (pre post : List HistoryEntry) (h : History) (waits : ℕ → Option ℕ) → pre ++ post ≡ whole → IsWorld n accounts whole firsts_all false pre h waits → (after : History) × (waiting : ℕ → Option ℕ) × IsWorld n accounts whole firsts_all true whole after waiting
   walk pre [] h waits all world =
       let here : pre ≡ whole = sym (append-nil pre) ∙ all in
       let it = all_settled laws n accounts whole firsts_all pre h waits served.listed ([], all) begins world in
-      (it.0, waits, subst (λ (xs : List Link). IsWorld n accounts whole firsts_all true xs it.0 waits) here it.1)
+      (it.0, waits, subst (λ (xs : List HistoryEntry). IsWorld n accounts whole firsts_all true xs it.0 waits) here it.1)
   walk pre (l ∷ post) h waits all world =
       let all_on : (pre ++ l ∷ []) ++ post ≡ whole = append_assoc pre (l ∷ []) post ∙ all in
       let stands : IsPrefix (pre ++ l ∷ []) whole = (post, all_on) in

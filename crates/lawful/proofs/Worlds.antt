@@ -8,7 +8,7 @@ use Rattle.brun.specs.declared.turns.Turn.TheVariants as turns
 use Rattle.node_programs.specs.declared.publishes.Publish.{Publish}
 use Rattle.node_programs.specs.Staged.{Staged}
 use Rattle.node_parts.specs.declared.config.BankConfig.{BankConfig}
-use Rattle.annals.specs.declared.deed.Link.{Link}
+use Rattle.annals.specs.declared.deed.HistoryEntry.{HistoryEntry}
 use Rattle.annals.specs.Banks.{entries_of}
 use Rattle.annals.specs.Chains.{done_for, instrument}
 use Rattle.annals.specs.Publishes.{publishes_of}
@@ -45,7 +45,7 @@ pub record IsNowhere (h : History) (q : ℕ) : Type 0 where
   pub closed : opened h q ≡ None
 
 -- what looking back finds of the programs and of the banks is what the list has up to there
-pub record IsCommon (n : Node) (pre : List Link) (h : History) : Type 0 where
+pub record IsCommon (n : Node) (pre : List HistoryEntry) (h : History) : Type 0 where
   pub lawful : IsLawfulExceptAnswers n h
   pub known : length n.firsts < shown_in pre → IsKnown n h (shown_of pre)
   pub fresh : shown_in pre ≤ length n.firsts → IsUnpublished n h
@@ -82,7 +82,7 @@ IsStillIf true ps ds = IsStill ps ds
 IsStillIf false ps ds = Unit {0}
 
 -- the place from which on its next command is taken
-abbrev pub place_from : Bool → List Link → ℕ
+abbrev pub place_from : Bool → List HistoryEntry → ℕ
 place_from true pre = length pre + 1
 place_from false pre = length pre
 
@@ -93,7 +93,7 @@ pub record IsOf (n : Node) (q : ℕ) (s : Standing) : Type 0 where
   pub some : length n.firsts < length s.pass.programs
 
 -- no command is open at the port, and those packets are to come
-pub record IsIdleBy (n : Node) (whole : List Link) (q : ℕ) (a : Account) (still : Bool) (pre : List Link) (h : History) (s : Standing) (ps : List Cargo) (ds : List Deed) : Type 0 where
+pub record IsIdleBy (n : Node) (whole : List HistoryEntry) (q : ℕ) (a : Account) (still : Bool) (pre : List HistoryEntry) (h : History) (s : Standing) (ps : List Cargo) (ds : List Deed) : Type 0 where
   pub worked : Worked s ps ds a.last
   pub full : AreDealtInFull n s ps ds a.last worked
   pub placed : AreLoadsPlaced q whole s ps ds a.last worked
@@ -105,14 +105,14 @@ pub record IsIdleBy (n : Node) (whole : List Link) (q : ℕ) (a : Account) (stil
   pub acts : length (done_for q pre) ≡ length s.asked
   pub so_far : (rest : List Happening) → HappenBy q ps ds rest → HappenBy q a.packets a.deeds (happened ++ rest)
 
-pub record IsIdleAt (n : Node) (whole : List Link) (q : ℕ) (a : Account) (still : Bool) (pre : List Link) (h : History) : Type 0 where
+pub record IsIdleAt (n : Node) (whole : List HistoryEntry) (q : ℕ) (a : Account) (still : Bool) (pre : List HistoryEntry) (h : History) : Type 0 where
   pub s : Standing
   pub ps : List Cargo
   pub ds : List Deed
   pub idle : IsIdleBy n whole q a still pre h s ps ds
 
 -- a command of the port was taken, and its program has its verdict
-pub record IsOpen (n : Node) (whole : List Link) (q : ℕ) (a : Account) : Type 0 where
+pub record IsOpen (n : Node) (whole : List HistoryEntry) (q : ℕ) (a : Account) : Type 0 where
   pub s : Standing
   pub after : Standing
   pub p : Cargo
@@ -133,28 +133,28 @@ pub record IsOpen (n : Node) (whole : List Link) (q : ℕ) (a : Account) : Type 
       → HappenBy q a.packets a.deeds (happened ++ (happening (ending j.judged.place q) (Done status j.reply loaded) ∷ rest))
 
 -- the command that is open
-abbrev pub command_in : (n : Node) (whole : List Link) (q : ℕ) (a : Account) → IsOpen n whole q a → Open
+abbrev pub command_in : (n : Node) (whole : List HistoryEntry) (q : ℕ) (a : Account) → IsOpen n whole q a → Open
 command_in n whole q a x = asking x.p x.j.judged.generation x.before (answers_of_calls x.j.calls)
 
 -- what looking back finds of it
-abbrev pub IsOpenNow : (n : Node) (whole : List Link) (q : ℕ) (a : Account) (h : History) → IsOpen n whole q a → Type 0
+abbrev pub IsOpenNow : (n : Node) (whole : List HistoryEntry) (q : ℕ) (a : Account) (h : History) → IsOpen n whole q a → Type 0
 IsOpenNow n whole q a h x = IsSeenAt n q h (Some (command_in n whole q a x)) x.s.pass.staging x.happened
 
 -- where the command's entry is, by what it left
-abbrev pub entry_at : (n : Node) (whole : List Link) (q : ℕ) (a : Account) (x : IsOpen n whole q a) (entry : LeavesEntry x.j x.p x.s x.after x.is) → IsDoneAt entry.banked.number x.j (stand x.is.between x.s.asked x.is.reached) x.after
+abbrev pub entry_at : (n : Node) (whole : List HistoryEntry) (q : ℕ) (a : Account) (x : IsOpen n whole q a) (entry : LeavesEntry x.j x.p x.s x.after x.is) → IsDoneAt entry.banked.number x.j (stand x.is.between x.s.asked x.is.reached) x.after
 entry_at n whole q a x entry = done_at entry.banked.number x.j (stand x.is.between x.s.asked x.is.reached) x.after entry.banked entry.banked.place entry.left
 
 -- all that the port knows when it ended is in the list
-pub front_open : (n : Node) (whole : List Link) (q : ℕ) (a : Account) (x : IsOpen n whole q a) → IsPrefix a.last.front whole → IsPrefix x.after.front whole
+pub front_open : (n : Node) (whole : List HistoryEntry) (q : ℕ) (a : Account) (x : IsOpen n whole q a) → IsPrefix a.last.front whole → IsPrefix x.after.front whole
 front_open n whole q a x begins = prefix_trans x.after.front a.last.front whole (worked_front x.after a.last x.ps x.ds x.worked) begins
 
 -- the entry, as an act of the port
-abbrev pub enter_acted : (n : Node) (whole : List Link) (q : ℕ) (a : Account) (x : IsOpen n whole q a) → LeavesEntry x.j x.p x.s x.after x.is → IsPrefix x.after.front whole → HasActed q whole x.j x.p x.s x.after x.is
+abbrev pub enter_acted : (n : Node) (whole : List HistoryEntry) (q : ℕ) (a : Account) (x : IsOpen n whole q a) → LeavesEntry x.j x.p x.s x.after x.is → IsPrefix x.after.front whole → HasActed q whole x.j x.p x.s x.after x.is
 enter_acted n whole q a x entry front =
     entry_acted q entry.banked.number whole x.j x.p x.s x.after x.is (entry_at n whole q a x entry) x.mine.port_is front (asks_one x.j (stand x.is.between x.s.asked x.is.reached) x.after entry.banked entry.left)
 
 -- its entry is to come
-pub record IsToEnter (n : Node) (whole : List Link) (q : ℕ) (a : Account) (pre : List Link) (h : History) : Type 0 where
+pub record IsToEnter (n : Node) (whole : List HistoryEntry) (q : ℕ) (a : Account) (pre : List HistoryEntry) (h : History) : Type 0 where
   pub open_at : IsOpen n whole q a
   pub here : IsOpenNow n whole q a h open_at
   pub acts : length (done_for q pre) ≡ length open_at.s.asked
@@ -162,7 +162,7 @@ pub record IsToEnter (n : Node) (whole : List Link) (q : ℕ) (a : Account) (pre
   pub place : length pre ≤ length (entry_at n whole q a open_at entry).before
 
 -- its publish is to come
-pub record IsToPublish (n : Node) (whole : List Link) (q : ℕ) (a : Account) (pre : List Link) (h : History) : Type 0 where
+pub record IsToPublish (n : Node) (whole : List HistoryEntry) (q : ℕ) (a : Account) (pre : List HistoryEntry) (h : History) : Type 0 where
   pub open_at : IsOpen n whole q a
   pub here : IsOpenNow n whole q a h open_at
   pub acts : length (done_for q pre) ≡ length open_at.s.asked
@@ -170,7 +170,7 @@ pub record IsToPublish (n : Node) (whole : List Link) (q : ℕ) (a : Account) (p
   pub place : length pre ≤ length one.placed.before
 
 -- its publish is in the list, and readers do not see it yet
-pub record IsToShow (n : Node) (whole : List Link) (q : ℕ) (a : Account) (pre : List Link) (h : History) : Type 0 where
+pub record IsToShow (n : Node) (whole : List HistoryEntry) (q : ℕ) (a : Account) (pre : List HistoryEntry) (h : History) : Type 0 where
   pub open_at : IsOpen n whole q a
   pub here : IsOpenNow n whole q a h open_at
   pub acts : length (done_for q pre) ≡ length open_at.s.asked + 1
@@ -178,25 +178,25 @@ pub record IsToShow (n : Node) (whole : List Link) (q : ℕ) (a : Account) (pre 
   pub place : length one.placed.before < length pre
   pub unseen : shown_in pre ≤ length one.windowed.old
 
-abbrev pub IsPortAt : (n : Node) (whole : List Link) (q : ℕ) (a : Account) (still : Bool) (pre : List Link) (h : History) → Type 0
+abbrev pub IsPortAt : (n : Node) (whole : List HistoryEntry) (q : ℕ) (a : Account) (still : Bool) (pre : List HistoryEntry) (h : History) → Type 0
 IsPortAt n whole q a still pre h =
     IsIdleAt n whole q a still pre h ⊎ (IsToEnter n whole q a pre h ⊎ (IsToPublish n whole q a pre h ⊎ IsToShow n whole q a pre h))
 
 -- the number of the program for which the port waits until readers see it
-abbrev pub waits_for : (n : Node) (whole : List Link) (q : ℕ) (a : Account) (still : Bool) (pre : List Link) (h : History) → IsPortAt n whole q a still pre h → Option ℕ
+abbrev pub waits_for : (n : Node) (whole : List HistoryEntry) (q : ℕ) (a : Account) (still : Bool) (pre : List HistoryEntry) (h : History) → IsPortAt n whole q a still pre h → Option ℕ
 waits_for n whole q a still pre h (inl x) = None
 waits_for n whole q a still pre h (inr (inl x)) = None
 waits_for n whole q a still pre h (inr (inr (inl x))) = None
 waits_for n whole q a still pre h (inr (inr (inr x))) = Some (length x.one.windowed.old)
 
 -- a port, and for what it waits
-pub record IsPort (n : Node) (whole : List Link) (q : ℕ) (a : Account) (still : Bool) (pre : List Link) (h : History) (wait : Option ℕ) : Type 0 where
+pub record IsPort (n : Node) (whole : List HistoryEntry) (q : ℕ) (a : Account) (still : Bool) (pre : List HistoryEntry) (h : History) (wait : Option ℕ) : Type 0 where
   pub at : IsPortAt n whole q a still pre h
   pub wait_is : waits_for n whole q a still pre h at ≡ wait
 
 -- ---- what other ports do
 
-pub port_moved : (n : Node) (whole : List Link) (p q : ℕ) (a : Account) (still : Bool) (pre : List Link) (h after : History) (wait : Option ℕ) → StaysElsewhere n p h after → (q ≡ p → ⊥)
+pub port_moved : (n : Node) (whole : List HistoryEntry) (p q : ℕ) (a : Account) (still : Bool) (pre : List HistoryEntry) (h after : History) (wait : Option ℕ) → StaysElsewhere n p h after → (q ≡ p → ⊥)
     → IsPort n whole q a still pre h wait → IsPort n whole q a still pre after wait
 port_moved n whole p q a still pre h after wait stays other port = by port.at port.wait_is
   where
@@ -269,16 +269,16 @@ pub record IsWaiting (n : Node) (waits : ℕ → Option ℕ) (number : ℕ) : Ty
   pub is : waits port ≡ Some number
 
 -- first the instrument published those, and it did nothing else
-pub record IsBegun (firsts : List Publish) (pre : List Link) : Type 0 where
+pub record IsBegun (firsts : List Publish) (pre : List HistoryEntry) : Type 0 where
   pub programs : IsPrefix firsts (publishes_of pre)
   pub did : length (done_for instrument pre) ≡ length firsts
 
 -- only the instrument published: the first of those, and it did nothing else
-pub record IsBeginning (firsts : List Publish) (pre : List Link) : Type 0 where
+pub record IsBeginning (firsts : List Publish) (pre : List HistoryEntry) : Type 0 where
   pub programs : IsPrefix (publishes_of pre) firsts
   pub did : length (done_for instrument pre) ≡ length (publishes_of pre)
 
-pub record IsWorld (n : Node) (accounts : ℕ → Account) (whole : List Link) (firsts : List Publish) (still : Bool) (pre : List Link) (h : History) (waits : ℕ → Option ℕ) : Type 0 where
+pub record IsWorld (n : Node) (accounts : ℕ → Account) (whole : List HistoryEntry) (firsts : List Publish) (still : Bool) (pre : List HistoryEntry) (h : History) (waits : ℕ → Option ℕ) : Type 0 where
   pub common : IsCommon n pre h
   pub ports : (q : ℕ) → q < n.ports → IsPort n whole q (accounts q) still pre h (waits q)
   pub pending : (number : ℕ) → shown_in pre ≤ number → number < length (publishes_of pre) → length n.firsts < number → IsWaiting n waits number

@@ -11,7 +11,7 @@ use Rattle.rmap.specs.Command.{command_of}
 use Rattle.annals.specs.declared.deed.Act.TheVariants.{Leaves, Sets, Rotates, Publishes}
 use Rattle.annals.specs.declared.deed.Deed.{Deed as LinkDeed}
 use Rattle.annals.specs.declared.deed.Deed.TheVariants.{Opens, Does, Asks, Shows}
-use Rattle.annals.specs.declared.deed.Link.{Link}
+use Rattle.annals.specs.declared.deed.HistoryEntry.{HistoryEntry}
 use Rattle.annals.specs.Banks.{entries_of}
 use Rattle.annals.specs.Chains.{chain_of}
 use Rattle.bank.specs.Answer.{judged_line}
@@ -60,19 +60,19 @@ IsDeedOf port (Asks due) = ⊥
 IsDeedOf port Shows = ⊥
 
 -- each deed is an entry of that port
-abbrev pub AreDeedsOf : (port : ℕ) → List Link → Type 0
+abbrev pub AreDeedsOf : (port : ℕ) → List HistoryEntry → Type 0
 AreDeedsOf port [] = Unit {0}
 AreDeedsOf port (l ∷ ls) = IsDeedOf port l.deed × AreDeedsOf port ls
 
 -- What the list has of a bank, if anything. First the bank began, as the node's configuration says. Then come entries
 -- of only that port, for which its journal has room.
-abbrev pub IsOwnChain : (port : ℕ) → BankConfig → List Link → Type 0
+abbrev pub IsOwnChain : (port : ℕ) → BankConfig → List HistoryEntry → Type 0
 IsOwnChain port bank [] = Unit {0}
 IsOwnChain port bank (l ∷ ls) =
     (l.deed ≡ Opens (bank.base, bank.size, bank.room)) × AreDeedsOf port ls × (length ls ≤ bank.room)
 
 -- what the list has of the bank of that number is the port's, and the numbers of its entries are below 2^64
-pub record IsOwnBank (port k : ℕ) (bank : BankConfig) (whole : List Link) : Type 0 where
+pub record IsOwnBank (port k : ℕ) (bank : BankConfig) (whole : List HistoryEntry) : Type 0 where
   pub chain : IsOwnChain port bank (chain_of k whole)
   pub few : bank.room < 2 ^ 64
 
@@ -105,7 +105,7 @@ AreDealtInFull n h (p ∷ ps) (d ∷ ds) after worked =
 
 -- A fresh port of the node was the only one that was served. Of the list of the node all that its banks had is the
 -- port's, and only its loads published. Nothing was lacking.
-pub record IsServedAlone (n : Node) (first : Standing) (ps : List Cargo) (ds : List Deed) (last : Standing) (whole : List Link) : Type 0 where
+pub record IsServedAlone (n : Node) (first : Standing) (ps : List Cargo) (ds : List Deed) (last : Standing) (whole : List HistoryEntry) : Type 0 where
   pub worked : Worked first ps ds last
   pub fresh : IsFreshPort n first
   pub banks : (k : ℕ) (bank : BankConfig) → slice_get n.banks k ≡ Some bank → IsOwnBank first.pass.port k bank whole
@@ -119,7 +119,7 @@ pub record IsServedAlone (n : Node) (first : Standing) (ps : List Cargo) (ds : L
 -- There is a history of the node, lawful apart from what cells answered. What became of its packets happened at the
 -- port, and nothing happened elsewhere. Its entries at each bank are those of the list. Its programs are those that the
 -- port knows in the end, and its staging is the port's.
-pub record HasLawfulHistory (n : Node) (port : ℕ) (ps : List Cargo) (ds : List Deed) (last : Standing) (whole : List Link) : Type 0 where
+pub record HasLawfulHistory (n : Node) (port : ℕ) (ps : List Cargo) (ds : List Deed) (last : Standing) (whole : List HistoryEntry) : Type 0 where
   pub history : History
   pub lawful : IsLawfulExceptAnswers n history
   pub happened : HappenBy port ps ds (happened_at port history)
@@ -133,5 +133,5 @@ pub record HasLawfulHistory (n : Node) (port : ℕ) (ps : List Cargo) (ds : List
 -- answered.
 abbrev pub OnePortIsLawful : Type 0
 OnePortIsLawful =
-    (n : Node) (first last : Standing) (ps : List Cargo) (ds : List Deed) (whole : List Link) → IsServedAlone n first ps ds last whole
+    (n : Node) (first last : Standing) (ps : List Cargo) (ds : List Deed) (whole : List HistoryEntry) → IsServedAlone n first ps ds last whole
     → HasLawfulHistory n first.pass.port ps ds last whole

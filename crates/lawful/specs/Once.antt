@@ -1,7 +1,7 @@
 -- The headline in threads: each command that threads did was judged once.
 use Rattle.std.specs.Prelude.{◌<◌, ℕ, List, All}
 use Rattle.spw.specs.Cargo.{Cargo}
-use Rattle.annals.specs.declared.deed.Link.{Link}
+use Rattle.annals.specs.declared.deed.HistoryEntry.{HistoryEntry}
 use Rattle.sched.specs.Headline.{AreJudgedOnce, IsNode}
 use Rattle.sched.specs.Looking.{Node}
 use Rattle.lawful.specs.Together.{Account, AreServedTogether, HaveLawfulHistory}
@@ -15,5 +15,5 @@ HaveBytes n accounts =
 -- node. The program that was published for its slot when it was taken judged it.
 abbrev pub ThreadsJudgeOnce : Type 0
 ThreadsJudgeOnce =
-    (n : Node) (accounts : ℕ → Account) (whole : List Link) → IsNode n → HaveBytes n accounts
+    (n : Node) (accounts : ℕ → Account) (whole : List HistoryEntry) → IsNode n → HaveBytes n accounts
     → AreServedTogether n accounts whole → (it : HaveLawfulHistory n accounts whole) × AreJudgedOnce n it.history

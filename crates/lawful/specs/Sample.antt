@@ -32,7 +32,7 @@ use Rattle.node_parts.specs.Passes.{PassValue, seat_at, with_staging}
 use Rattle.node_parts.specs.Stagings.{after_staged, answer_staged}
 use Rattle.annals.specs.declared.deed.Act.TheVariants.{Leaves, Publishes}
 use Rattle.annals.specs.declared.deed.Deed.TheVariants.{Does, Opens}
-use Rattle.annals.specs.declared.deed.Link.{Link}
+use Rattle.annals.specs.declared.deed.HistoryEntry.{HistoryEntry}
 use Rattle.annals.specs.Banks.{answer_after}
 use Rattle.annals.specs.Chains.{instrument, link}
 use Rattle.annals.specs.Publishes.{publishes_chain, publishes_of}
@@ -107,35 +107,35 @@ abbrev pub load_publish : Sample → Publish
 load_publish x = entry 0 x.program
 
 -- the bank begins
-abbrev pub opening_link : Link
+abbrev pub opening_link : HistoryEntry
 opening_link = link 0 0 (Opens (2684354560, 16, 4)) 0
 
 -- the factory program is published
-abbrev pub factory_link : Sample → Link
+abbrev pub factory_link : Sample → HistoryEntry
 factory_link x = link publishes_chain 0 (Does (Publishes (instrument, factory_publish x))) 0
 
 -- port 0 publishes its program
-abbrev pub load_link : Sample → Link
+abbrev pub load_link : Sample → HistoryEntry
 load_link x = link publishes_chain 1 (Does (Publishes (0, load_publish x))) 0
 
 -- port 1 leaves the entry of its read
-abbrev pub entry_link : Sample → Link
+abbrev pub entry_link : Sample → HistoryEntry
 entry_link x = link 0 1 (Does (Leaves (entry_of (first_share 1) (judged_yes x.read (Bank 0) 1) Success))) 0
 
 -- what the list begins with: readers see the factory program
-abbrev pub list_at_first : Sample → List Link
+abbrev pub list_at_first : Sample → List HistoryEntry
 list_at_first x = opening_link ∷ factory_link x ∷ showing ∷ []
 
 -- port 0 published its program, and readers do not see it
-abbrev pub list_at_load : Sample → List Link
+abbrev pub list_at_load : Sample → List HistoryEntry
 list_at_load x = opening_link ∷ factory_link x ∷ showing ∷ load_link x ∷ []
 
 -- readers see it
-abbrev pub list_before_entry : Sample → List Link
+abbrev pub list_before_entry : Sample → List HistoryEntry
 list_before_entry x = opening_link ∷ factory_link x ∷ showing ∷ load_link x ∷ showing ∷ []
 
 -- all of it
-abbrev pub sample_list : Sample → List Link
+abbrev pub sample_list : Sample → List HistoryEntry
 sample_list x = opening_link ∷ factory_link x ∷ showing ∷ load_link x ∷ showing ∷ entry_link x ∷ []
 
 -- ---- what the ports did

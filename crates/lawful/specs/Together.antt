@@ -8,7 +8,7 @@ use Rattle.spw.specs.Cargo.{Cargo}
 use Rattle.annals.specs.declared.deed.Act.TheVariants.{Leaves, Sets, Rotates, Publishes}
 use Rattle.annals.specs.declared.deed.Deed.{Deed as LinkDeed}
 use Rattle.annals.specs.declared.deed.Deed.TheVariants.{Opens, Does, Asks, Shows}
-use Rattle.annals.specs.declared.deed.Link.{Link}
+use Rattle.annals.specs.declared.deed.HistoryEntry.{HistoryEntry}
 use Rattle.annals.specs.Banks.{entries_of}
 use Rattle.annals.specs.Chains.{Due, chain_of, done_for, instrument}
 use Rattle.annals.specs.Publishes.{publishes_chain, publishes_of}
@@ -35,7 +35,7 @@ pub record Account : Type 0 where
 
 -- A fresh port of the node was served beside others. The list of the node has all that it knows. Of the port it has
 -- what it asked for, and nothing else. Nothing was lacking.
-pub record IsServedBeside (n : Node) (whole : List Link) (port : ℕ) (account : Account) : Type 0 where
+pub record IsServedBeside (n : Node) (whole : List HistoryEntry) (port : ℕ) (account : Account) : Type 0 where
   pub worked : Worked account.first account.packets account.deeds account.last
   pub fresh : IsFreshPort n account.first
   pub port_is : account.first.pass.port ≡ port
@@ -55,18 +55,18 @@ IsSomeEntry (Asks due) = ⊥
 IsSomeEntry Shows = ⊥
 
 -- each deed is an entry
-abbrev pub AreSomeEntries : List Link → Type 0
+abbrev pub AreSomeEntries : List HistoryEntry → Type 0
 AreSomeEntries [] = Unit {0}
 AreSomeEntries (l ∷ ls) = IsSomeEntry l.deed × AreSomeEntries ls
 
 -- What the list has of a bank, if anything. First the bank began, as the node's configuration says. Then come only
 -- entries, for which its journal has room.
-abbrev pub IsChainOf : BankConfig → List Link → Type 0
+abbrev pub IsChainOf : BankConfig → List HistoryEntry → Type 0
 IsChainOf bank [] = Unit {0}
 IsChainOf bank (l ∷ ls) = (l.deed ≡ Opens (bank.base, bank.size, bank.room)) × AreSomeEntries ls × (length ls ≤ bank.room)
 
 -- the list has of the bank of that number what ports left, and the numbers of its entries are below 2^64
-pub record IsBankOfPorts (k : ℕ) (bank : BankConfig) (whole : List Link) : Type 0 where
+pub record IsBankOfPorts (k : ℕ) (bank : BankConfig) (whole : List HistoryEntry) : Type 0 where
   pub chain : IsChainOf bank (chain_of k whole)
   pub few : bank.room < 2 ^ 64
 
@@ -77,7 +77,7 @@ published_first publish = (publishes_chain, Publishes (instrument, publish))
 -- All ports of the node were served side by side, each fresh at first. The list of the node has what they did. Of
 -- others it has only that the instrument published the factory program and then those that the node begins with, in
 -- order. Readers saw no program before it was published, and in the end all.
-pub record AreServedTogether (n : Node) (accounts : ℕ → Account) (whole : List Link) : Type 0 where
+pub record AreServedTogether (n : Node) (accounts : ℕ → Account) (whole : List HistoryEntry) : Type 0 where
   pub few : n.ports ≤ instrument
   pub each : (port : ℕ) → port < n.ports → IsServedBeside n whole port (accounts port)
   pub banks : (k : ℕ) (bank : BankConfig) → slice_get n.banks k ≡ Some bank → IsBankOfPorts k bank whole
@@ -96,7 +96,7 @@ pub record AreServedTogether (n : Node) (accounts : ℕ → Account) (whole : Li
 -- There is a history of the node, lawful apart from what cells answered. In it what became of its packets happened at
 -- each port, and nothing happened elsewhere. Its entries at each bank and its programs are those of the list, and each
 -- port's staging is its own.
-pub record HaveLawfulHistory (n : Node) (accounts : ℕ → Account) (whole : List Link) : Type 0 where
+pub record HaveLawfulHistory (n : Node) (accounts : ℕ → Account) (whole : List HistoryEntry) : Type 0 where
   pub history : History
   pub lawful : IsLawfulExceptAnswers n history
   pub happened : (port : ℕ) → port < n.ports → HappenBy port (accounts port).packets (accounts port).deeds (happened_at port history)
@@ -111,5 +111,5 @@ pub record HaveLawfulHistory (n : Node) (accounts : ℕ → Account) (whole : Li
 -- cells answered.
 abbrev pub ThreadsAreLawful : Type 0
 ThreadsAreLawful =
-    (n : Node) (accounts : ℕ → Account) (whole : List Link) → AreServedTogether n accounts whole
+    (n : Node) (accounts : ℕ → Account) (whole : List HistoryEntry) → AreServedTogether n accounts whole
     → HaveLawfulHistory n accounts whole

@@ -4,8 +4,8 @@ ghost use Rattle.std.specs.Prelude.{◌≡◌, ◌≢◌, ◌≤◌, ◌<◌, []
 ghost use Rattle.frames.specs.Streams.{reading_after, received_in};
 ghost use Rattle.linking.specs.Linking.{AnswersAll, AnswersFrame, Exchanges, IsCutOff, IsMoved, IsWholeLink, StopsAt, StopsExchange, StopsIn, StopsNext};
 
-use crate::link::{LinkEnd, CannotTransfer, Link, Target};
-use frames::{Received, FrameReader, frames_are_read};
+use crate::link::{CannotTransfer, Link, LinkEnd, Target};
+use frames::{FrameReader, Received, frames_are_read};
 
 /// How many bytes the link is asked for at a time. Any number above 0 gives the same answers.
 const CHUNK: usize = 8192;
@@ -29,11 +29,15 @@ fn report_due<L: Link>(text: &[u8], link: &mut L) -> Result<(), CannotTransfer>
     if text.is_empty() {
         return Ok(());
     }
-    link.tell(text)
+    link.report(text)
 }
 
 /// Serves what came with a frame, sends the reply that is due, and then reports the text.
-fn answer<N: Target, L: Link>(received: Received, target: &mut N, link: &mut L) -> Result<(), LinkEnd>
+fn answer<N: Target, L: Link>(
+    received: Received,
+    target: &mut N,
+    link: &mut L,
+) -> Result<(), LinkEnd>
     ensures ok { OnOk result (AnswersFrame N.served L.sent L.reported received
         target.old target.new link.old link.new) }
     ensures err { IfErr result (λ why. StopsAt N.served N.unserved L.sent L.reported L.unsent L.unreported

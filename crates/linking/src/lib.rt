@@ -5,4 +5,4 @@ pub mod holding;
 pub mod link;
 
 pub use holding::hold;
-pub use link::{LinkEnd, CannotTransfer, PendingOutput, Link, Target};
+pub use link::{CannotTransfer, Link, LinkEnd, PendingOutput, Target};

@@ -71,7 +71,7 @@ pub trait Link {
     /// # Errors
     ///
     /// `CannotTransfer` if it cannot be reported.
-    fn tell(&mut self, text: &[u8]) -> Result<(), CannotTransfer>
+    fn report(&mut self, text: &[u8]) -> Result<(), CannotTransfer>
         ensures ok { OnOk result (reported self.old text.now self.new) }
         ensures err { OnErr result (unreported self.old text.now self.new) };
 

@@ -153,7 +153,10 @@ pub fn push_port(insns: &mut Vec<Insn>, port: Option<u8>, following: u8) -> Resu
         dst: register(VALUE),
         place: port_byte_place(),
     };
-    insns.extend_from_slice(&[loaded, skip_if(Condition::NotEqual, VALUE, wanted, following)])
+    insns.extend_from_slice(&[
+        loaded,
+        skip_if(Condition::NotEqual, VALUE, wanted, following),
+    ])
 }
 
 /// Tests that the address is not below the range, and the last address not above it.
@@ -161,7 +164,12 @@ pub fn push_port(insns: &mut Vec<Insn>, port: Option<u8>, following: u8) -> Resu
 /// # Errors
 ///
 /// Memory is refused.
-pub fn push_range(insns: &mut Vec<Insn>, low: u32, high: u32, following: u8) -> Result<(), AllocError>
+pub fn push_range(
+    insns: &mut Vec<Insn>,
+    low: u32,
+    high: u32,
+    following: u8,
+) -> Result<(), AllocError>
     requires { following ≤ 250 }
     ensures { OnOk result (insns.new.items ≡ insns.old.items ++ range_test low high following) }
 {
@@ -178,7 +186,11 @@ pub fn push_range(insns: &mut Vec<Insn>, low: u32, high: u32, following: u8) -> 
 /// # Errors
 ///
 /// Memory is refused.
-pub fn push_quota(insns: &mut Vec<Insn>, quota: Option<Quota>, following: u8) -> Result<(), AllocError>
+pub fn push_quota(
+    insns: &mut Vec<Insn>,
+    quota: Option<Quota>,
+    following: u8,
+) -> Result<(), AllocError>
     requires { IsLimited quota }
     ensures { OnOk result (insns.new.items ≡ insns.old.items ++ quota_test quota following) }
 {

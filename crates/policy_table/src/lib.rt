@@ -9,13 +9,13 @@
 mod checks;
 mod counts;
 mod deciding;
-mod partial_tables;
 mod faults;
 mod fields;
 mod laws;
 mod lines;
 mod matching;
 mod mismatches;
+mod partial_tables;
 mod passing;
 mod policies;
 mod port_rules;

@@ -15,7 +15,7 @@ use crate::port_rules::PortRule;
 use crate::room::length_fault;
 use crate::rules::Rule;
 use crate::statement_faults::StatementFault;
-use crate::statements::{is_version_two, has_version};
+use crate::statements::{has_version, is_version_two};
 use crate::surveys::survey_lines;
 use crate::text_faults::TextFault;
 use crate::versions::TableVersion;
@@ -263,7 +263,11 @@ impl Policy {
 }
 
 /// The first fault of rules and of the range that ends before it begins, line by line.
-fn placed_rules_fault(reversed: Option<usize>, rules: &[PortRule], sizes: &MapSizes) -> Option<TextFault>
+fn placed_rules_fault(
+    reversed: Option<usize>,
+    rules: &[PortRule],
+    sizes: &MapSizes,
+) -> Option<TextFault>
     ensures { result ≡ placed_rules_fault sizes.now reversed rules.now }
 {
     for own in rules {

@@ -8,8 +8,8 @@ ghost use Rattle.policy_table.specs.Room.{room_fault};
 ghost use Rattle.policy_table.specs.Surveys.{FindsLine, HasFaults, empty_survey, first_of_code, has_code, listed, named_by, reported_fault, reversed_at, room_after_line, statement_faults, with_bad, with_statement};
 
 use crate::checks::placed_rule_fault;
-use crate::partial_tables::{PartialTable, TableStatement, code_of, statement_in};
 use crate::faults::PolicyFault;
+use crate::partial_tables::{PartialTable, TableStatement, code_of, statement_in};
 use crate::port_rules::PortRule;
 use crate::ranges::{NamedRange, NamedRanges, is_range_name};
 use crate::room::{Room, room_after, room_fault, whole_room};
@@ -96,7 +96,11 @@ fn push_faults(
 }
 
 /// The room after what a line says.
-fn room_after_line(version: TableVersion, room: Option<Room>, statement: &TableStatement<'_>) -> Option<Room>
+fn room_after_line(
+    version: TableVersion,
+    room: Option<Room>,
+    statement: &TableStatement<'_>,
+) -> Option<Room>
     ensures { result ≡ room_after_line version room statement.now }
 {
     match statement {

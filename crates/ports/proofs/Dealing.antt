@@ -15,7 +15,7 @@ use Rattle.node_parts.specs.Steps.{IsStopped, IsUnread, IsJudgement}
 use Rattle.node_parts.specs.Applied.{share_of}
 use Rattle.node_parts.specs.Stagings.{IsStagingPlace}
 use Rattle.node_parts.specs.Served.{EndsAtWindow, IsStagedAt}
-use Rattle.annals.specs.declared.deed.Link.{Link}
+use Rattle.annals.specs.declared.deed.HistoryEntry.{HistoryEntry}
 use Rattle.annals.specs.Banks.{takes}
 use Rattle.annals.specs.Chains.{Due}
 use Rattle.annals.specs.Shown.{IsTakenAtMoment}
@@ -25,7 +25,7 @@ use Rattle.ports.specs.Due.{Judging, stand, standing, IsBanked, IsWindowEnd, Has
 use Rattle.lemmas.proofs.Prefixes.{prefix_trans}
 use Rattle.ports.specs.Due.Deed.{Dropped, Answered, Judged}
 
-pub stopped : (h after : PortPass) (f : List Link) (p : Cargo) (d : Discard) (reply : List ℕ) → IsStopped (stops.Discarded d) p h.pass.windows reply → after.pass ≡ h.pass → after.asked ≡ h.asked → HasDealt p (standing h f) (standing after f) reply true
+pub stopped : (h after : PortPass) (f : List HistoryEntry) (p : Cargo) (d : Discard) (reply : List ℕ) → IsStopped (stops.Discarded d) p h.pass.windows reply → after.pass ≡ h.pass → after.asked ≡ h.asked → HasDealt p (standing h f) (standing after f) reply true
 stopped h after f p d reply is same line = record {
   deed = Dropped;
   dealt = record { discard = d; discarded = is.0; same = ap₂ (λ x y. stand x y f) same line };
@@ -33,7 +33,7 @@ stopped h after f p d reply is same line = record {
   dropped_is = refl;
 }
 
-pub answered : (h after : PortPass) (f : List Link) (p : Cargo) (status : Status) (reply : List ℕ) → IsStopped (stops.Answered status) p h.pass.windows reply → after.pass ≡ h.pass → after.asked ≡ h.asked → HasDealt p (standing h f) (standing after f) reply false
+pub answered : (h after : PortPass) (f : List HistoryEntry) (p : Cargo) (status : Status) (reply : List ℕ) → IsStopped (stops.Answered status) p h.pass.windows reply → after.pass ≡ h.pass → after.asked ≡ h.asked → HasDealt p (standing h f) (standing after f) reply false
 answered h after f p status reply is same line = record {
   deed = Answered reply;
   dealt = record { answered = inl (status, is); same = ap₂ (λ x y. stand x y f) same line };
@@ -41,7 +41,7 @@ answered h after f p status reply is same line = record {
   dropped_is = refl;
 }
 
-pub unread : (h after : PortPass) (f : List Link) (p : Cargo) (reply : List ℕ) → IsUnread p h.pass.windows reply → after.pass ≡ h.pass → after.asked ≡ h.asked → HasDealt p (standing h f) (standing after f) reply false
+pub unread : (h after : PortPass) (f : List HistoryEntry) (p : Cargo) (reply : List ℕ) → IsUnread p h.pass.windows reply → after.pass ≡ h.pass → after.asked ≡ h.asked → HasDealt p (standing h f) (standing after f) reply false
 unread h after f p reply is same line = record {
   deed = Answered reply;
   dealt = record { answered = inr is; same = ap₂ (λ x y. stand x y f) same line };
@@ -54,7 +54,7 @@ judging_of : (h between : PassValue) (p : Cargo) (j : JudgedValue) (reply : List
 judging_of h between p j reply entered loaded is =
     record { judged = j; program = is.program; calls = is.calls; entered = entered; loaded = loaded; reply = reply }
 
-judged_so : (h after : PortPass) (between : PassValue) (f seen reached : List Link) (p : Cargo) (j : JudgedValue) (reply : List ℕ) (entered : Bool) (loaded : Option Publish) → IsTakenAtMoment f seen between.programs → (is : IsJudgement h.pass between p j) → IsBanked (judging_of h.pass between p j reply entered loaded is) (stand between h.asked seen) (standing after reached) ⊎ IsWindowEnd (judging_of h.pass between p j reply entered loaded is) (stand between h.asked seen) (standing after reached) → HasDealt p (standing h f) (standing after reached) reply false
+judged_so : (h after : PortPass) (between : PassValue) (f seen reached : List HistoryEntry) (p : Cargo) (j : JudgedValue) (reply : List ℕ) (entered : Bool) (loaded : Option Publish) → IsTakenAtMoment f seen between.programs → (is : IsJudgement h.pass between p j) → IsBanked (judging_of h.pass between p j reply entered loaded is) (stand between h.asked seen) (standing after reached) ⊎ IsWindowEnd (judging_of h.pass between p j reply entered loaded is) (stand between h.asked seen) (standing after reached) → HasDealt p (standing h f) (standing after reached) reply false
 unfolding judging_of
 judged_so h after between f seen reached p j reply entered loaded moment is end = record {
   deed = Judged (judging_of h.pass between p j reply entered loaded is);
@@ -63,7 +63,7 @@ judged_so h after between f seen reached p j reply entered loaded moment is end 
   dropped_is = refl;
 }
 
-pub banked : (h between after : PortPass) (f seen reached : List Link) (p : Cargo) (j : JudgedValue) (k : ℕ) (reply : List ℕ) → IsTakenAtMoment f seen between.pass.programs → IsJudgement h.pass between.pass p j → between.asked ≡ h.asked → j.place ≡ Bank k
+pub banked : (h between after : PortPass) (f seen reached : List HistoryEntry) (p : Cargo) (j : JudgedValue) (k : ℕ) (reply : List ℕ) → IsTakenAtMoment f seen between.pass.programs → IsJudgement h.pass between.pass p j → between.asked ≡ h.asked → j.place ≡ Bank k
     → HasFinished seen reached between.pass after.pass between.asked after.asked j reply → HasDealt p (standing h f) (standing after reached) reply false
 unfolding judging_of
 banked h between after f seen reached p j k reply moment is line at end =
@@ -74,7 +74,7 @@ banked h between after f seen reached p j k reply moment is line at end =
 begins_itself : (xs : List Publish) → IsPrefix xs xs
 begins_itself xs = ([], append-nil xs)
 
-links_itself : (xs : List Link) → IsPrefix xs xs
+links_itself : (xs : List HistoryEntry) → IsPrefix xs xs
 links_itself xs = ([], append-nil xs)
 
 -- a place of the staging is no control write
@@ -82,14 +82,14 @@ no_control : (place own : Place) → place ≡ own → (place ≡ Staging) ⊎ (
 no_control place own same (inl bytes) at = cc (same, bytes, at)
 no_control place own same (inr loaded) at = cc (same, loaded, at)
 
-windowed : (h between after : PortPass) (f seen : List Link) (p : Cargo) (j : JudgedValue) (result : Status) (reply : List ℕ) → IsTakenAtMoment f seen between.pass.programs → IsJudgement h.pass between.pass p j → after.asked ≡ h.asked
+windowed : (h between after : PortPass) (f seen : List HistoryEntry) (p : Cargo) (j : JudgedValue) (result : Status) (reply : List ℕ) → IsTakenAtMoment f seen between.pass.programs → IsJudgement h.pass between.pass p j → after.asked ≡ h.asked
     → EndsAtWindow j.place between.pass after.pass between.pass.programs between.pass.programs j result reply → (j.place ≡ Control → ⊥) → HasDealt p (standing h f) (standing after seen) reply false
 unfolding judging_of
 windowed h between after f seen p j result reply moment is line end other =
     let programs = between.pass.programs in
     judged_so h after between.pass f seen seen p j reply false None moment is (inr (record { old = programs; new = programs; begins = begins_itself programs; result = result; ended = end; entered = refl; asks_for = (refl, line); front = links_itself seen; moment = λ at. absurd (other at) }))
 
-pub staged : (h between after : PortPass) (f seen : List Link) (p : Cargo) (j : JudgedValue) (place : Place) (result : Status) (reply : List ℕ) → IsTakenAtMoment f seen between.pass.programs → IsJudgement h.pass between.pass p j → between.asked ≡ h.asked → place ≡ j.place → IsStagingPlace place
+pub staged : (h between after : PortPass) (f seen : List HistoryEntry) (p : Cargo) (j : JudgedValue) (place : Place) (result : Status) (reply : List ℕ) → IsTakenAtMoment f seen between.pass.programs → IsJudgement h.pass between.pass p j → between.asked ≡ h.asked → place ≡ j.place → IsStagingPlace place
     → IsStagedAt between.pass after.pass j result reply → after.asked ≡ between.asked → HasDealt p (standing h f) (standing after seen) reply false
 staged h between after f seen p j place result reply moment is line same at end still =
     let programs = between.pass.programs in
@@ -98,7 +98,7 @@ staged h between after f seen p j place result reply moment is line same at end 
       | inr loaded ↦ subst (λ x. EndsAtWindow x between.pass after.pass programs programs j result reply) (sym loaded) (end, refl)
     ])) (no_control place j.place same at)
 
-pub loaded : (h between after : PortPass) (f seen reached : List Link) (p : Cargo) (j : JudgedValue) (reply : List ℕ) → IsTakenAtMoment f seen between.pass.programs → IsJudgement h.pass between.pass p j → between.asked ≡ h.asked → j.place ≡ Control
+pub loaded : (h between after : PortPass) (f seen reached : List HistoryEntry) (p : Cargo) (j : JudgedValue) (reply : List ℕ) → IsTakenAtMoment f seen between.pass.programs → IsJudgement h.pass between.pass p j → between.asked ≡ h.asked → j.place ≡ Control
     → HasLoadEnd seen reached between.pass after.pass between.asked after.asked j reply → HasDealt p (standing h f) (standing after reached) reply false
 unfolding judging_of
 loaded h between after f seen reached p j reply moment is line at end =

@@ -9,7 +9,7 @@ use Rattle.bank.specs.Records.{BankValue, ShareValue, JudgedValue, has_room, num
 use Rattle.node_programs.specs.declared.publishes.Publish.{Publish}
 use Rattle.node_parts.specs.Passes.{PassValue}
 use Rattle.node_parts.specs.Applied.{share_of}
-use Rattle.annals.specs.declared.deed.Link.{Link}
+use Rattle.annals.specs.declared.deed.HistoryEntry.{HistoryEntry}
 use Rattle.annals.specs.Banks.{IsDoneAtBank, takes}
 use Rattle.annals.specs.Publishes.{publishes_of}
 use Rattle.target.specs.Finished.{IsDoneAfter}
@@ -43,7 +43,7 @@ done_after j h after is left =
     subst (λ (o : Option ℕ). IfSome o (λ n. IsDoneAfter h.pass.programs before.chain.number h.front after.front share j.judged is.ended.result j.reply)) number end.done
 
 -- a command that was done after what somebody saw was done after what this one had seen before
-pub done_since : (bank : ℕ) (known first reached : List Link) (share : ShareValue) (j : JudgedValue) (result : Applied) (reply : List ℕ) → IsPrefix known first → IsDoneAtBank bank first reached share j result reply → IsDoneAtBank bank known reached share j result reply
+pub done_since : (bank : ℕ) (known first reached : List HistoryEntry) (share : ShareValue) (j : JudgedValue) (result : Applied) (reply : List ℕ) → IsPrefix known first → IsDoneAtBank bank first reached share j result reply → IsDoneAtBank bank known reached share j result reply
 done_since bank known first reached share j result reply begins done = record {
   place = done.place;
   last = record { before = done.last.before; next = done.last.next; log = done.last.log; seen = prefix_trans known first done.last.before begins done.last.seen };
@@ -53,14 +53,14 @@ done_since bank known first reached share j result reply begins done = record {
 }
 
 -- a moment before what somebody saw is one before what this one saw later
-pub shown_before : (known seen later : List Link) (j : Judging) → IsPrefix seen later → IsByShown known seen j → IsByShown known later j
+pub shown_before : (known seen later : List HistoryEntry) (j : Judging) → IsPrefix seen later → IsByShown known seen j → IsByShown known later j
 shown_before known seen later j begins is = record { at = is.at; after = is.after; before = prefix_trans is.at seen later is.before begins; shown = is.shown }
 
-pub shown_begins : (known seen : List Link) (j : Judging) → IsByShown known seen j → IsPrefix known seen
+pub shown_begins : (known seen : List HistoryEntry) (j : Judging) → IsByShown known seen j → IsPrefix known seen
 shown_begins known seen j is = prefix_trans known is.at seen is.after is.before
 
 -- so it is in the history after the program that judged it
-unfoldable pub entered : (port : ℕ) (known : List Link) (j : Judging) (h after : Standing) → IsJudgedAfter port j h.pass → IsByShown known h.front j → IsBanked j h after → j.entered ≡ true → HasEntered port known after.front j
+unfoldable pub entered : (port : ℕ) (known : List HistoryEntry) (j : Judging) (h after : Standing) → IsJudgedAfter port j h.pass → IsByShown known h.front j → IsBanked j h after → j.entered ≡ true → HasEntered port known after.front j
 unfolding done_since done_after
 entered port known j h after by moment is left = let following = done_after j h after is left in record {
   bank = is.ended.before.chain.number;
@@ -84,7 +84,7 @@ not_entered j h after is none =
     subst (λ (o : Option ℕ). IfNone o (after.front ≡ h.front)) number end.none
 
 -- what a judged command did to the history that its port knows
-step : (port : ℕ) (known : List Link) (j : Judging) (h after : Standing) → IsJudgedAfter port j h.pass → IsByShown known h.front j → IsBanked j h after ⊎ IsWindowEnd j h after → MatchBool j.entered (HasEntered port known after.front j) (IsPrefix known after.front)
+step : (port : ℕ) (known : List HistoryEntry) (j : Judging) (h after : Standing) → IsJudgedAfter port j h.pass → IsByShown known h.front j → IsBanked j h after ⊎ IsWindowEnd j h after → MatchBool j.entered (HasEntered port known after.front j) (IsPrefix known after.front)
 step port known j h after by moment (inl banked) = elim (cases_Bool j.entered) [
   | inl left ↦ subst (λ b. MatchBool b (HasEntered port known after.front j) (IsPrefix known after.front)) (sym left) (entered port known j h after by moment banked left)
   | inr none ↦ subst (λ b. MatchBool b (HasEntered port known after.front j) (IsPrefix known after.front)) (sym none)
@@ -95,7 +95,7 @@ step port known j h after by moment (inr windowed) =
     (prefix_trans known h.front after.front (shown_begins known h.front j moment) windowed.front)
 
 -- the history that a port knows may have begun earlier
-entered_since : (port : ℕ) (known first reached : List Link) (j : Judging) → IsPrefix known first → HasEntered port first reached j → HasEntered port known reached j
+entered_since : (port : ℕ) (known first reached : List HistoryEntry) (j : Judging) → IsPrefix known first → HasEntered port first reached j → HasEntered port known reached j
 unfolding done_since
 entered_since port known first reached j begins is = record {
   bank = is.bank;
@@ -106,19 +106,19 @@ entered_since port known first reached j begins is = record {
   moment = record { at = is.moment.at; after = prefix_trans known first is.moment.at begins is.moment.after; before = is.moment.before; shown = is.moment.shown };
 }
 
-follow_since : (port : ℕ) (known first : List Link) (js : List Judging) (reached : List Link) → IsPrefix known first → EntriesFollow port first js reached → EntriesFollow port known js reached
+follow_since : (port : ℕ) (known first : List HistoryEntry) (js : List Judging) (reached : List HistoryEntry) → IsPrefix known first → EntriesFollow port first js reached → EntriesFollow port known js reached
 follow_since port known first [] reached begins is = prefix_trans known first reached begins is
 follow_since port known first (j ∷ js) reached begins is = by j.entered is (follow_since port known first js reached begins) where
-  by : (b : Bool) → MatchBool b ((between : List Link) × HasEntered port first between j × EntriesFollow port between js reached) (EntriesFollow port first js reached)
+  by : (b : Bool) → MatchBool b ((between : List HistoryEntry) × HasEntered port first between j × EntriesFollow port between js reached) (EntriesFollow port first js reached)
       → (EntriesFollow port first js reached → EntriesFollow port known js reached)
-      → MatchBool b ((between : List Link) × HasEntered port known between j × EntriesFollow port between js reached) (EntriesFollow port known js reached)
+      → MatchBool b ((between : List HistoryEntry) × HasEntered port known between j × EntriesFollow port between js reached) (EntriesFollow port known js reached)
   by true here later = (here.0, entered_since port known first here.0 j begins here.1, here.2)
   by false here later = later here
 
 -- one judged command before the others
-follows : (entered : Bool) (port : ℕ) (j : Judging) (js : List Judging) (known between reached : List Link) → MatchBool entered (HasEntered port known between j) (IsPrefix known between)
+follows : (entered : Bool) (port : ℕ) (j : Judging) (js : List Judging) (known between reached : List HistoryEntry) → MatchBool entered (HasEntered port known between j) (IsPrefix known between)
     → EntriesFollow port between js reached
-    → MatchBool entered ((l : List Link) × HasEntered port known l j × EntriesFollow port l js reached) (EntriesFollow port known js reached)
+    → MatchBool entered ((l : List HistoryEntry) × HasEntered port known l j × EntriesFollow port l js reached) (EntriesFollow port known js reached)
 follows true port j js known between reached here rest = (between, here, rest)
 follows false port j js known between reached here rest = follow_since port known between js reached here rest
 

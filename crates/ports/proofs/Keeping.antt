@@ -13,7 +13,7 @@ use Rattle.node_parts.specs.Passes.{PassValue}
 use Rattle.node_parts.specs.Applied.{with_share}
 use Rattle.node_parts.specs.Loaded.{EndsAs, IsLoadEnd}
 use Rattle.node_parts.specs.Served.{EndsAtWindow, IsStagedAt}
-use Rattle.annals.specs.declared.deed.Link.{Link}
+use Rattle.annals.specs.declared.deed.HistoryEntry.{HistoryEntry}
 use Rattle.annals.specs.Chains.{Due, done_for}
 use Rattle.annals.specs.Publishes.{publishes_of}
 use Rattle.target.specs.Loads.{HasAskedForLoad}
@@ -44,7 +44,7 @@ share_keeps h Staging share = keeps_same h h refl
 share_keeps h LoadResult share = keeps_same h h refl
 share_keeps h Control share = keeps_same h h refl
 
-finish_keeps : (known reached : List Link) (h after : PassValue) (asked asks : List Due) (j : JudgedValue) (reply : List ℕ) → HasFinished known reached h after asked asks j reply → Keeps h after
+finish_keeps : (known reached : List HistoryEntry) (h after : PassValue) (asked asks : List Due) (j : JudgedValue) (reply : List ℕ) → HasFinished known reached h after asked asks j reply → Keeps h after
 finish_keeps known reached h after asked asks j reply end =
     subst (λ x. Keeps h x) (sym end.finished.shares) (share_keeps h j.place end.finished.share)
 
@@ -79,7 +79,7 @@ pub load_count : (h after : PassValue) (old new : List Publish) (j : JudgedValue
 load_count h after old new j result reply end = (load_keeps _ h after old new j result end.ended).count
 
 -- a load, before and after which the port learnt what was published and what it did
-pub load_met : (known met reached : List Link) (p0 p1 p2 p3 : PortPass) (d0 d1 d2 : List Publish) (j : JudgedValue) (result : Status) (reply : List ℕ) → p1 ≡ p0 → p3 ≡ p2 → d1 ≡ d0 → IsPrefix p1.pass.programs d1
+pub load_met : (known met reached : List HistoryEntry) (p0 p1 p2 p3 : PortPass) (d0 d1 d2 : List Publish) (j : JudgedValue) (result : Status) (reply : List ℕ) → p1 ≡ p0 → p3 ≡ p2 → d1 ≡ d0 → IsPrefix p1.pass.programs d1
     → IsLoadEnd p1.pass p2.pass d1 d2 j result reply → HasAskedForLoad p1.pass.port d1 d2 p1.asked p2.asked → IsPrefix known met → publishes_of met ≡ d0 → done_for p0.pass.port met ≡ p0.asked
     → IsPrefix met reached → publishes_of reached ≡ d2 → done_for p2.pass.port reached ≡ p2.asked → HasLoadEnd known reached p0.pass p3.pass p0.asked p3.asked j reply
 load_met known met reached p0 p1 p2 p3 d0 d1 d2 j result reply same_1 same_3 same_d begins ended asks seen published did goes publishes does =

@@ -7,7 +7,7 @@ use Rattle.bank.specs.Records.{EntryValue, entry_of}
 use Rattle.node_programs.specs.declared.publishes.Publish.{Publish}
 use Rattle.node_parts.specs.Applied.{share_of}
 use Rattle.annals.specs.declared.deed.Act.TheVariants.{Leaves}
-use Rattle.annals.specs.declared.deed.Link.{Link}
+use Rattle.annals.specs.declared.deed.HistoryEntry.{HistoryEntry}
 use Rattle.annals.specs.Chains.{Due, done_for}
 use Rattle.annals.specs.Publishes.{EntriesAreNoLoads, LoadsAreListed, loads_in}
 use Rattle.target.specs.Loads.{AsksForLoad}

@@ -6,7 +6,7 @@ use Rattle.std.proofs.lemmas.List.{get_or-map, get_or_append_left, get_or-append
 use Rattle.std.specs.List.{All}
 use Rattle.std.proofs.lemmas.List.Elements.{All-append, All-cons, All-nil}
 use mathlib.Core.List.{IsPrefix}
-use Rattle.annals.specs.declared.deed.Link.{Link}
+use Rattle.annals.specs.declared.deed.HistoryEntry.{HistoryEntry}
 use Rattle.annals.specs.Chains.{ActsGrow, done_for}
 use Rattle.annals.specs.Publishes.{EntriesAreNoLoads, LoadsAreListed}
 use Rattle.target.specs.Passes.{PortPass}
@@ -167,7 +167,7 @@ pub same_worker : {J S : Type 0} (w : Worker J S) (pass : PortPass) → pass ≡
 same_worker {J} {S} w pass same = ap (λ (x : PortPass). record w { pass = x }) same
 
 -- Of the first threads, what their workers know of the history, and did there, is known.
-abbrev pub AreKnownTo : {J S : Type 0} → ℕ → List (Ended J S) → List Link → Type 0
+abbrev pub AreKnownTo : {J S : Type 0} → ℕ → List (Ended J S) → List HistoryEntry → Type 0
 AreKnownTo {J} {S} n ended known = (k : ℕ) (e : Ended J S) → k < n → IsWorkerInformed known (slice_index_or ended k e).worker
 
 other_default : {A : Type 0} (xs : List A) (k : ℕ) (d e : A) → k < length xs → slice_index_or xs k d ≡ slice_index_or xs k e
@@ -176,7 +176,7 @@ other_default (x ∷ xs) zero d e below = refl
 other_default (x ∷ xs) (suc k) d e below = other_default xs k d e (omega (arith, below))
 
 -- One more of them.
-pub known_more : {J S : Type 0} → ActsGrow → (n : ℕ) (ended : List (Ended J S)) (old new : List Link) (d : Ended J S) → n < length ended → IsPrefix old new → IsWorkerInformed new (slice_index_or ended n d).worker
+pub known_more : {J S : Type 0} → ActsGrow → (n : ℕ) (ended : List (Ended J S)) (old new : List HistoryEntry) (d : Ended J S) → n < length ended → IsPrefix old new → IsWorkerInformed new (slice_index_or ended n d).worker
     → AreKnownTo n ended old → AreKnownTo (n + 1) ended new
 known_more {J} {S} grow n ended old new d below longer here known = λ k e low.
     ⊎_elim

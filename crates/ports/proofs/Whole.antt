@@ -16,7 +16,7 @@ use Rattle.node_parts.specs.Applied.{share_of}
 use Rattle.annals.specs.declared.deed.Act.TheVariants as acts
 use Rattle.annals.specs.declared.deed.Deed.{Deed as BankDeed}
 use Rattle.annals.specs.declared.deed.Deed.TheVariants as deeds
-use Rattle.annals.specs.declared.deed.Link.{Link}
+use Rattle.annals.specs.declared.deed.HistoryEntry.{HistoryEntry}
 use Rattle.annals.specs.Chains.{chain_of, link}
 use Rattle.annals.specs.Banks.{entries_by, entries_in, entries_of, with_entry}
 use Rattle.annals.specs.Publishes.{publishes_of}
@@ -56,13 +56,13 @@ with_joined (deeds.Does (acts.Publishes x)) xs ys = refl
 with_joined (deeds.Asks x) xs ys = refl
 with_joined deeds.Shows xs ys = refl
 
-entries_append : (ls ms : List Link) → entries_in (ls ++ ms) ≡ entries_in ls ++ entries_in ms
+entries_append : (ls ms : List HistoryEntry) → entries_in (ls ++ ms) ≡ entries_in ls ++ entries_in ms
 entries_append [] ms = refl
 entries_append (l ∷ ls) ms = ap (with_entry l.deed) (entries_append ls ms) ∙ with_joined l.deed (entries_in ls) (entries_in ms)
 
-by_append : (port k : ℕ) (xs ys : List Link) → entries_by port k (xs ++ ys) ≡ entries_by port k xs ++ entries_by port k ys
+by_append : (port k : ℕ) (xs ys : List HistoryEntry) → entries_by port k (xs ++ ys) ≡ entries_by port k xs ++ entries_by port k ys
 by_append port k xs ys =
-    ap (λ ls. filter (λ (e : EntryValue). e.port == port) (entries_in ls)) (filter-append (λ (l : Link). l.chain == k) xs ys)
+    ap (λ ls. filter (λ (e : EntryValue). e.port == port) (entries_in ls)) (filter-append (λ (l : HistoryEntry). l.chain == k) xs ys)
     ∙ (ap (filter (λ (e : EntryValue). e.port == port)) (entries_append (chain_of k xs) (chain_of k ys))
     ∙ filter-append (λ (e : EntryValue). e.port == port) (entries_of k xs) (entries_of k ys))
 
@@ -76,11 +76,11 @@ by_one port k place next e is =
 
 -- ---- fronts
 
-follow_prefix : (port : ℕ) (known : List Link) (js : List Judging) (reached : List Link) → EntriesFollow port known js reached → IsPrefix known reached
+follow_prefix : (port : ℕ) (known : List HistoryEntry) (js : List Judging) (reached : List HistoryEntry) → EntriesFollow port known js reached → IsPrefix known reached
 follow_prefix port known [] reached is = is
 follow_prefix port known (j ∷ js) reached is = by j.entered is (λ from rest. follow_prefix port from js reached rest) where
-  by : (b : Bool) → MatchBool b ((between : List Link) × HasEntered port known between j × EntriesFollow port between js reached) (EntriesFollow port known js reached)
-      → ((from : List Link) → EntriesFollow port from js reached → IsPrefix from reached) → IsPrefix known reached
+  by : (b : Bool) → MatchBool b ((between : List HistoryEntry) × HasEntered port known between j × EntriesFollow port between js reached) (EntriesFollow port known js reached)
+      → ((from : List HistoryEntry) → EntriesFollow port from js reached → IsPrefix from reached) → IsPrefix known reached
   by true here later =
       let last = here.1.done.last in
       let begins : IsPrefix last.before here.0 = (_, sym last.log) in
@@ -102,7 +102,7 @@ place_is k n place at here =
     let same : (n == k) ≡ true = subst (λ (p : Place). is_bank_of k p ≡ true) at here in
     grind (arith, nat_tests, same)
 
-left_at : (port k : ℕ) (known : List Link) (j : Judging) (h after : Standing) → j.judged.port ≡ port → IsJudgedAfter port j h.pass → IsByShown known h.front j → IsBanked j h after → is_entry_at k j ≡ true → HasLeft port k j h after
+left_at : (port k : ℕ) (known : List HistoryEntry) (j : Judging) (h after : Standing) → j.judged.port ≡ port → IsJudgedAfter port j h.pass → IsByShown known h.front j → IsBanked j h after → is_entry_at k j ≡ true → HasLeft port k j h after
 unfolding entered
 left_at port k known j h after own by moment is here =
     let parts = and_parts j.entered (is_bank_of k j.judged.place) here in
@@ -159,7 +159,7 @@ judged_left k j p h after is here =
 -- ---- all commands
 
 -- an entry that is in a history is in one that goes on from it
-entry_in_longer : (port : ℕ) (front log : List Link) (n : ℕ) (j : Judging) (e : EntryValue) → IsPrefix front log → IsEntryOf port front n j e → IsEntryOf port log n j e
+entry_in_longer : (port : ℕ) (front log : List HistoryEntry) (n : ℕ) (j : Judging) (e : EntryValue) → IsPrefix front log → IsEntryOf port front n j e → IsEntryOf port log n j e
 entry_in_longer port front log n j e begins is = record {
   known = is.known;
   reached = is.reached;
@@ -169,7 +169,7 @@ entry_in_longer port front log n j e begins is = record {
 }
 
 -- the commands at a bank, with one more before them
-more_entries : (port : ℕ) (log : List Link) (k n : ℕ) (j : Judging) (js : List Judging) (before rest all : List EntryValue) (e : EntryValue) → is_entry_at k j ≡ true → length before ≡ n → IsEntryOf port log n j e → all ≡ (before ++ e ∷ []) ++ rest
+more_entries : (port : ℕ) (log : List HistoryEntry) (k n : ℕ) (j : Judging) (js : List Judging) (before rest all : List EntryValue) (e : EntryValue) → is_entry_at k j ≡ true → length before ≡ n → IsEntryOf port log n j e → all ≡ (before ++ e ∷ []) ++ rest
     → AreEntriesOf port log (n + 1) (filter (is_entry_at k) js) (drop (n + 1) all) → AreEntriesOf port log n (filter (is_entry_at k) (j ∷ js)) (drop n all)
 more_entries port log k n j js before rest all e here count is whole others =
     let first : drop n all ≡ e ∷ rest = ap (drop n) (whole ∙ append_assoc before (e ∷ []) rest) ∙ drop_at n before (e ∷ rest) count in
@@ -180,7 +180,7 @@ more_entries port log k n j js before rest all e here count is whole others =
     (subst (λ (b : Bool). AreEntriesOf port log n (cond b (j ∷ filter (is_entry_at k) js) (filter (is_entry_at k) js)) (e ∷ rest)) (sym here) both)
 
 -- one judged command before the others
-one_before : (k : ℕ) (log : List Link) (j : Judging) (p : Cargo) (h between : Standing) (js : List Judging) → IsJudgedInRun j p h between → IsPrefix between.front log → k < length h.pass.shares
+one_before : (k : ℕ) (log : List HistoryEntry) (j : Judging) (p : Cargo) (h between : Standing) (js : List Judging) → IsJudgedInRun j p h between → IsPrefix between.front log → k < length h.pass.shares
     → AreEntriesOf h.pass.port log (next_number_at between.pass k) (filter (is_entry_at k) js) (drop (next_number_at between.pass k) (entries_by h.pass.port k log))
     → AreEntriesOf h.pass.port log (next_number_at h.pass k) (filter (is_entry_at k) (j ∷ js)) (drop (next_number_at h.pass k) (entries_by h.pass.port k log))
 one_before k log j p h between js is front below rest = by (is_entry_at k j) refl where
@@ -207,7 +207,7 @@ one_before k log j p h between js is front below rest = by (is_entry_at k j) ref
       subst (λ (b : Bool). AreEntriesOf h.pass.port log n (cond b (j ∷ filter (is_entry_at k) js) (filter (is_entry_at k) js)) (drop n all)) (sym here)
       (subst (λ (i : ℕ). AreEntriesOf h.pass.port log i (filter (is_entry_at k) js) (drop i all)) next rest)
 
-all_entries : (k : ℕ) (log : List Link) (h after : Standing) (ps : List Cargo) (ds : List Deed) → Worked h ps ds after → IsPrefix after.front log → k < length h.pass.shares
+all_entries : (k : ℕ) (log : List HistoryEntry) (h after : Standing) (ps : List Cargo) (ds : List Deed) → Worked h ps ds after → IsPrefix after.front log → k < length h.pass.shares
     → IsPrefix (numbers_of h.pass.port (entries_of k log)) (range_with_len 0 (next_number_at after.pass k))
     → AreEntriesOf h.pass.port log (next_number_at h.pass k) (filter (is_entry_at k) (judgings ds)) (drop (next_number_at h.pass k) (entries_by h.pass.port k log))
 all_entries k log h after [] [] w begins below counted =

@@ -19,7 +19,7 @@ use Rattle.node_parts.specs.declared.stop.Stop.TheVariants as stops
 use Rattle.node_parts.specs.Applied.{share_of}
 use Rattle.node_parts.specs.Loaded.{IsLoadEnd}
 use Rattle.node_parts.specs.Served.{EndsAtWindow}
-use Rattle.annals.specs.declared.deed.Link.{Link}
+use Rattle.annals.specs.declared.deed.HistoryEntry.{HistoryEntry}
 use Rattle.annals.specs.Banks.{KeptValue, takes}
 use Rattle.annals.specs.Chains.{Due, done_for}
 use Rattle.annals.specs.Publishes.{publishes_of}
@@ -32,14 +32,14 @@ use Rattle.target.specs.Passes.{PortPass}
 pub record Standing : Type 0 where
   pub pass : PassValue
   pub asked : List Due
-  pub front : List Link
+  pub front : List HistoryEntry
 
 -- the port that has this, asked for that, and knows that beginning of the history
-abbrev pub stand : PassValue → List Due → List Link → Standing
+abbrev pub stand : PassValue → List Due → List HistoryEntry → Standing
 stand pass asked front = record { pass = pass; asked = asked; front = front }
 
 -- the port with that pass, which knows that beginning of the history
-abbrev pub standing : PortPass → List Link → Standing
+abbrev pub standing : PortPass → List HistoryEntry → Standing
 standing port front = stand port.pass port.asked front
 
 -- A command that was judged: the program and the calls of its run, and whether it left an entry in a bank's journal. It
@@ -111,7 +111,7 @@ pub record IsUnjudged (reply : List ℕ) (p : Cargo) (h after : Standing) : Type
 -- A judged command ended at some bank with its chain. If it left an entry, that is the last of the history that the
 -- port then knows, and its port asked for it. Status and reply are then the definition's on the replay of what is
 -- before it there.
-pub record HasFinished (known reached : List Link) (holder after : PassValue) (asked asks : List Due) (j : JudgedValue)
+pub record HasFinished (known reached : List HistoryEntry) (holder after : PassValue) (asked asks : List Due) (j : JudgedValue)
     (reply : List ℕ) : Type 0 where
   pub before : KeptValue
   pub following : KeptValue
@@ -133,8 +133,8 @@ pub record IsBanked (judging : Judging) (h after : Standing) : Type 0 where
 
 -- What a port knows of the history by a load. At one moment after all that the port knew, that list had been published
 -- and the port had done what it asked for. At a later moment both are what the load left.
-pub record HasMet (port : ℕ) (known reached : List Link) (old new : List Publish) (asked asks : List Due) : Type 0 where
-  pub met : List Link
+pub record HasMet (port : ℕ) (known reached : List HistoryEntry) (old new : List Publish) (asked asks : List Due) : Type 0 where
+  pub met : List HistoryEntry
   pub seen : IsPrefix known met
   pub published : publishes_of met ≡ old
   pub did : done_for port met ≡ asked
@@ -144,7 +144,7 @@ pub record HasMet (port : ℕ) (known reached : List Link) (old new : List Publi
 
 -- A judged control write ended when some list had been published, which began with all that the port knew. Its port
 -- asked for what it published, and for nothing else. The port knows where in the history that was.
-pub record HasLoadEnd (known reached : List Link) (holder after : PassValue) (asked asks : List Due) (j : JudgedValue)
+pub record HasLoadEnd (known reached : List HistoryEntry) (holder after : PassValue) (asked asks : List Due) (j : JudgedValue)
     (reply : List ℕ) : Type 0 where
   pub old : List Publish
   pub new : List Publish
@@ -174,7 +174,7 @@ pub record IsWindowEnd (judging : Judging) (h after : Standing) : Type 0 where
 -- one moment of the history, after what the port knew. The command ended at some bank or in the boot window.
 pub record IsJudgedInRun (judging : Judging) (p : Cargo) (h after : Standing) : Type 0 where
   pub between : PassValue
-  pub reached : List Link
+  pub reached : List HistoryEntry
   pub moment : IsTakenAtMoment h.front reached between.programs
   pub judgement : IsJudgement h.pass between p judging.judged
   pub program : judging.program ≡ judgement.program

@@ -15,7 +15,7 @@ use Rattle.node_parts.specs.Steps.{IsPacketVerdict}
 use Rattle.node_parts.specs.Applied.{share_of}
 use Rattle.bank.specs.declared.bank.Applied.{Applied}
 use Rattle.bank.specs.Records.{EntryValue, ShareValue, numbered_entry}
-use Rattle.annals.specs.declared.deed.Link.{Link}
+use Rattle.annals.specs.declared.deed.HistoryEntry.{HistoryEntry}
 use Rattle.annals.specs.Banks.{IsDoneAtBank, entries_by}
 use Rattle.annals.specs.Chains.{done_for}
 use Rattle.annals.specs.Publishes.{loads_by, loads_in, publishes_of}
@@ -84,8 +84,8 @@ WorkersSharesCount =
 
 -- At one moment after what was known, and not after what was reached, readers saw in the command's slot the program
 -- that judged it. So that program was then the last of its slot.
-pub record IsByShown (known reached : List Link) (judging : Judging) : Type 0 where
-  pub at : List Link
+pub record IsByShown (known reached : List HistoryEntry) (judging : Judging) : Type 0 where
+  pub at : List HistoryEntry
   pub after : IsPrefix known at
   pub before : IsPrefix at reached
   pub shown : judging_program (shown_of at) (slot_of (command_kind (command_of judging.judged.packet)) judging.judged.place)
@@ -94,7 +94,7 @@ pub record IsByShown (known reached : List Link) (judging : Judging) : Type 0 wh
 -- The command was done at a bank. It is the last of a history that goes on from what its port knew. Status and reply
 -- are the definition's on the replay of what is before it there. Before it comes the publish of the program that judged
 -- it. Readers saw that program as the last of its slot at a moment after what its port knew.
-pub record HasEntered (port : ℕ) (known reached : List Link) (judging : Judging) : Type 0 where
+pub record HasEntered (port : ℕ) (known reached : List HistoryEntry) (judging : Judging) : Type 0 where
   pub bank : ℕ
   pub share : ShareValue
   pub result : Applied
@@ -104,24 +104,24 @@ pub record HasEntered (port : ℕ) (known reached : List Link) (judging : Judgin
 
 -- The entries of a port are in the history in the order of its packets, each after all that the port knew then. From
 -- what left no entry the port may know more.
-abbrev pub EntriesFollow : (port : ℕ) (known : List Link) → List Judging → (reached : List Link) → Type 0
+abbrev pub EntriesFollow : (port : ℕ) (known : List HistoryEntry) → List Judging → (reached : List HistoryEntry) → Type 0
 EntriesFollow port known [] reached = IsPrefix known reached
 EntriesFollow port known (judging ∷ judgings) reached =
     MatchBool judging.entered
-    ((between : List Link) × HasEntered port known between judging × EntriesFollow port between judgings reached)
+    ((between : List HistoryEntry) × HasEntered port known between judging × EntriesFollow port between judgings reached)
     (EntriesFollow port known judgings reached)
 
 -- The entry is that of the command, which is the one of that number of its port at its bank. It is in the history with
 -- the status of the command's answer there.
-pub record IsEntryOf (port : ℕ) (log : List Link) (number : ℕ) (judging : Judging) (entry : EntryValue) : Type 0 where
-  pub known : List Link
-  pub reached : List Link
+pub record IsEntryOf (port : ℕ) (log : List HistoryEntry) (number : ℕ) (judging : Judging) (entry : EntryValue) : Type 0 where
+  pub known : List HistoryEntry
+  pub reached : List HistoryEntry
   pub entered : HasEntered port known reached judging
   pub stands : IsPrefix reached log
   pub entry_is : entry ≡ numbered_entry number judging.judged entered.result.status
 
 -- the entries are those of the commands, in order and each once, numbered from that number on
-abbrev pub AreEntriesOf : (port : ℕ) → (log : List Link) → ℕ → List Judging → List EntryValue → Type 0
+abbrev pub AreEntriesOf : (port : ℕ) → (log : List HistoryEntry) → ℕ → List Judging → List EntryValue → Type 0
 AreEntriesOf port log number [] [] = Unit {0}
 AreEntriesOf port log number [] (entry ∷ entries) = ⊥
 AreEntriesOf port log number (judging ∷ judgings) [] = ⊥
@@ -130,7 +130,7 @@ AreEntriesOf port log number (judging ∷ judgings) (entry ∷ entries) =
 
 -- At each bank, the entries of the port in that history are those that its share counted at first, and then those of
 -- its commands. Each command that left one there has one, in order and each once.
-abbrev pub AreAllEntries : List Link → PassValue → List Deed → Type 0
+abbrev pub AreAllEntries : List HistoryEntry → PassValue → List Deed → Type 0
 AreAllEntries log h deeds =
     (k : ℕ) → k < length h.shares
     → AreEntriesOf h.port log (next_number_at h k) (filter (is_entry_at k) (judgings deeds))
@@ -140,7 +140,7 @@ AreAllEntries log h deeds =
 -- Then the entries of the port in it are those that `AreAllEntries` gives.
 abbrev pub WorkersEntriesAreAll : Type 0
 WorkersEntriesAreAll =
-    (h after : Standing) (packets : List Cargo) (deeds : List Deed) (log : List Link) → Worked h packets deeds after
+    (h after : Standing) (packets : List Cargo) (deeds : List Deed) (log : List HistoryEntry) → Worked h packets deeds after
     → IsPrefix after.front log → CountsAllOf after.pass log → AreAllEntries log h.pass deeds
 
 -- Each command of a worker that left an entry is in the history that its port knows in the end, in order. It has the
@@ -163,12 +163,12 @@ publishes_of_commands (judging ∷ judgings) = with_loaded judging.loaded (publi
 
 -- The publishes of the port in that history are those that it had asked for at first, and then those of its commands
 -- that published. The latter are in order and each once.
-abbrev pub AreAllPublishes : List Link → Standing → List Deed → Type 0
+abbrev pub AreAllPublishes : List HistoryEntry → Standing → List Deed → Type 0
 AreAllPublishes log h deeds = loads_by h.pass.port log ≡ loads_in h.asked ++ publishes_of_commands (judgings deeds)
 
 -- If a history has of a port what it asked for, and nothing else, its publishes of the port are those that
 -- `AreAllPublishes` gives.
 abbrev pub WorkersPublishesAreAll : Type 0
 WorkersPublishesAreAll =
-    (h after : Standing) (packets : List Cargo) (deeds : List Deed) (log : List Link) → Worked h packets deeds after
+    (h after : Standing) (packets : List Cargo) (deeds : List Deed) (log : List HistoryEntry) → Worked h packets deeds after
     → done_for after.pass.port log ≡ after.asked → AreAllPublishes log h deeds

@@ -3,7 +3,7 @@ use Rattle.std.specs.Prelude.{◌≡◌, ◌<◌, ◌≤◌, ◌+◌, ◌⊎◌,
 use Rattle.std.specs.Prelude.{Some, None, MatchOption, vec_len, vec_capacity}
 use Rattle.std.specs.List.{All, sum_by}
 use mathlib.Core.List.{IsPrefix}
-use Rattle.annals.specs.declared.deed.Link.{Link}
+use Rattle.annals.specs.declared.deed.HistoryEntry.{HistoryEntry}
 use Rattle.target.specs.Lines.{CountsAllOf}
 use Rattle.annals.specs.Chains.{done_for}
 use Rattle.annals.specs.Publishes.{publishes_of}
@@ -98,7 +98,7 @@ pub record HaveComeBack {J S : Type 0} (sent : S → List SentReply) (failed : S
   pub few : length old ≤ length new + 1
 
 -- all that the worker's port knows is in that history, and so is all that it asked for, done
-abbrev pub IsWorkerInformed : {J S : Type 0} → List Link → Worker J S → Type 0
+abbrev pub IsWorkerInformed : {J S : Type 0} → List HistoryEntry → Worker J S → Type 0
 IsWorkerInformed log worker =
     IsPrefix worker.front log × IsPrefix worker.pass.asked (done_for worker.pass.pass.port log)
 
@@ -106,7 +106,7 @@ IsWorkerInformed log worker =
 -- that their shares count. Of their ports it has what they asked for, and nothing else. At each moment of it readers
 -- saw no program that was not published, and in the end they see all.
 pub record ShareOneHistory {J S : Type 0} (workers : List (Worker J S)) : Type 0 where
-  pub whole : List Link
+  pub whole : List HistoryEntry
   pub begin : All (λ (w : Worker J S). IsPrefix w.front whole) workers
   pub counted : All (λ (w : Worker J S). CountsAllOf w.pass.pass whole) workers
   pub asked : All (λ (w : Worker J S). done_for w.pass.pass.port whole ≡ w.pass.asked) workers

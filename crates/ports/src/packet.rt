@@ -53,8 +53,8 @@ fn know<J: Family, Q: Wait + Drop>(
     ensures publisher { publisher.new ≡ publisher.old }
 {
     acts_grow();
-    pass.tell(front);
-    publisher.tell(front);
+    pass.announce(front);
+    publisher.announce(front);
     publisher.knows_all(front);
     pass.knows_entries(front);
 }

@@ -73,7 +73,7 @@ fn show_all<R: Wait, J: Family, Q: Wait + Drop>(rt: &R, node: &Node<J, Q>, known
 {
     let mut guard = node.publisher().lock(rt);
     let publisher = &mut *guard;
-    publisher.tell(known);
+    publisher.announce(known);
     publisher.knows_all(known);
     MutexGuard::unlock(guard);
 }
@@ -93,7 +93,7 @@ fn all_known<R: Wait, J: Family, Q: Wait + Drop, S: Sink + Drop>(
     acts_grow();
     for one in ended {
         known.learn(&one.worker.front);
-        one.worker.pass.tell(&mut known);
+        one.worker.pass.announce(&mut known);
     }
     show_all(rt, node, &mut known);
     known

@@ -2,7 +2,7 @@
 use Rattle.std.proofs.Common.{◌≡◌, ◌⊎◌, inl, inr, ℕ, zero, suc, ◌≤◌, List, [], ◌∷◌, length, Some, slice_get, ap, sym, subst, ◌∙◌}
 use mathlib.Core.List.{IsPrefix}
 use Rattle.node_programs.specs.declared.publishes.Publish.{Publish}
-use Rattle.annals.specs.declared.deed.Link.{Link}
+use Rattle.annals.specs.declared.deed.HistoryEntry.{HistoryEntry}
 use Rattle.annals.specs.Publishes.{PublishesGrow, publishes_of}
 use Rattle.annals.specs.Shown.{IsTakenAtMoment}
 use Rattle.publish.specs.Reached.{Known, known}
@@ -23,7 +23,7 @@ learnt old new reported programs is begins longer =
     ap (λ (r : Known). r.programs) (longer less) ∙ is
 
 -- two beginnings of one history: the one with fewer publishes has those that begin the other's
-pub prefix_of_two : (xs ys : List Link) → PublishesGrow → IsPrefix xs ys ⊎ IsPrefix ys xs → length (publishes_of xs) ≤ length (publishes_of ys) → IsPrefix (publishes_of xs) (publishes_of ys)
+pub prefix_of_two : (xs ys : List HistoryEntry) → PublishesGrow → IsPrefix xs ys ⊎ IsPrefix ys xs → length (publishes_of xs) ≤ length (publishes_of ys) → IsPrefix (publishes_of xs) (publishes_of ys)
 prefix_of_two xs ys grow (inl p) le = grow xs ys p
 prefix_of_two xs ys grow (inr p) le = prefix_same (publishes_of xs) (publishes_of ys) (prefix_whole (publishes_of ys) (publishes_of xs) (grow ys xs p) le)
 
@@ -32,7 +32,7 @@ swapped (inl a) = inr a
 swapped (inr b) = inl b
 
 -- a moment after what somebody saw is one after what this one had seen before
-pub taken_since : (known first reached : List Link) (programs same : List Publish) → IsPrefix known first → programs ≡ same → IsTakenAtMoment first reached programs → IsTakenAtMoment known reached same
+pub taken_since : (known first reached : List HistoryEntry) (programs same : List Publish) → IsPrefix known first → programs ≡ same → IsTakenAtMoment first reached programs → IsTakenAtMoment known reached same
 taken_since known first reached programs same begins is at = record {
   at = at.at;
   after = prefix_trans known first at.at begins at.after;

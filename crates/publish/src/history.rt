@@ -50,7 +50,9 @@ impl NodeHistory {
     /// # Errors
     ///
     /// `AllocError` if the chain has begun already (no test met that).
-    pub fn into_publishes<J: Family>(self) -> Result<(Chain<J>, Line<J>, PublishedCount<J>), AllocError>
+    pub fn into_publishes<J: Family>(
+        self,
+    ) -> Result<(Chain<J>, Line<J>, PublishedCount<J>), AllocError>
         requires { self ≡ J.book }
         ensures number { IfOk result (λ made. made.0.number ≡ publishes_chain) }
         ensures none { IfOk result (λ made. publishes_of made.0.log ≡ []) }
@@ -164,7 +166,7 @@ impl<J: Family> History<J> {
     }
 
     /// Somebody learns all of it, and that readers see it.
-    pub(crate) fn tell(&self, published_count: &PublishedCount<J>, known: &mut annals::Front<J>)
+    pub(crate) fn announce(&self, published_count: &PublishedCount<J>, known: &mut annals::Front<J>)
         ensures old { IsPrefix known.old known.new }
         ensures reported { IsPrefix self.now (publishes_of known.new) }
         ensures shown { length self.now ≤ shown_in known.new }
@@ -250,7 +252,7 @@ impl Front {
     }
 
     /// Whoever knows a beginning of the node's history then knows these publishes as well.
-    pub(crate) fn tell<J: Family>(&self, known: &mut annals::Front<J>)
+    pub(crate) fn announce<J: Family>(&self, known: &mut annals::Front<J>)
         requires { self.now.family ≡ J.book }
         ensures old { IsPrefix known.old known.new }
         ensures reported { IsPrefix self.now.programs (publishes_of known.new) }

@@ -15,9 +15,9 @@ mod loader;
 mod programs;
 mod publisher;
 mod reader;
+mod reported;
 mod rule;
 mod table;
-mod reported;
 
 pub use annals::{Family, Front, Line};
 pub use history::NodeHistory;

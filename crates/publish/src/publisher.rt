@@ -10,9 +10,9 @@ ghost use Rattle.publish.specs.Reached.{reached};
 
 use crate::history::{Front, History};
 use crate::loader::LoadRights;
-use crate::rule::{InFamily, Shows, PublishedView};
-use crate::table::Table;
 use crate::reported::Told;
+use crate::rule::{InFamily, PublishedView, Shows};
+use crate::table::Table;
 use annals::{Family, Line, PublishedCount};
 use bver::{Accepted, MapSizes};
 use core::mem::replace_with;
@@ -134,13 +134,13 @@ impl<J: Family, R: Wait + Drop> Publisher<J, R> {
     }
 
     /// Somebody learns enough of the node's history that it has all that was published, and that readers see all of it.
-    pub fn tell(&self, known: &mut annals::Front<J>)
+    pub fn announce(&self, known: &mut annals::Front<J>)
         ensures old { IsPrefix known.old known.new }
         ensures reported { IsPrefix self.now (publishes_of known.new) }
         ensures shown { length self.now ≤ shown_in known.new }
         ensures listed { AreListed known.new }
     {
-        self.history.tell(&self.published_count, known);
+        self.history.announce(&self.published_count, known);
     }
 
     /// The publishes that anybody has seen of the node's history begin what was published.

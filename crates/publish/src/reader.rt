@@ -11,9 +11,9 @@ ghost use Rattle.publish.specs.Reached.{IsReaderInside, known, reached};
 ghost use Rattle.publish.specs.contracts.reader.Reader.{the_row};
 
 use crate::history::Front;
+use crate::reported::Told;
 use crate::rule::{InFamily, Looks, PublishedView};
 use crate::table::Table;
-use crate::reported::Told;
 use annals::{Family, PublishedCount};
 use bver::{Accepted, MapSizes};
 use left_right::reader::{Reader as Entrance, Reading};
@@ -98,11 +98,11 @@ impl<J: Family> Reader<J> {
     }
 
     /// Whoever knows a beginning of the node's history then knows the publishes as well that the reader knows.
-    pub fn tell(&self, known: &mut annals::Front<J>)
+    pub fn announce(&self, known: &mut annals::Front<J>)
         ensures old { IsPrefix known.old known.new }
         ensures reported { IsPrefix self.now.programs (publishes_of known.new) }
     {
-        self.known.tell(known);
+        self.known.announce(known);
     }
 
     /// The maps for which each program was accepted, with their kinds.

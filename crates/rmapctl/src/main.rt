@@ -10,8 +10,8 @@ ghost use Rattle.commands.specs.Refusals.{AreUnknown};
 ghost use Rattle.job_parts.specs.Statuses.{exit_code, usage_status};
 
 use commands::{
-    Desk, MachineDesk, UsageText, ExitStatus, Stream, UsageFault, argument_fault, do_words, stream_of,
-    usage_end,
+    Desk, ExitStatus, MachineDesk, Stream, UsageFault, UsageText, argument_fault, do_words,
+    stream_of, usage_end,
 };
 use std::alloc::Global;
 use std::env;

@@ -42,7 +42,8 @@ impl Counting {
     pub(crate) fn agrees(&self) -> bool
         ensures { result ≡ agrees self.now }
     {
-        self.each_kept == complement_of_count(self.each) && self.left_kept == complement_of_count(self.left)
+        self.each_kept == complement_of_count(self.each)
+            && self.left_kept == complement_of_count(self.left)
     }
 
     /// Whether a scrub is due before the next packet.

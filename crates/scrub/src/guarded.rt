@@ -16,7 +16,7 @@ use crate::guard::{Guard, Scrubbed, generations};
 use bver::Accepted;
 use node_parts::Served;
 use node_programs::PublishFault;
-use single_node::{SingleNode, ServedDetail};
+use single_node::{ServedDetail, SingleNode};
 use spw::Packet;
 use std::alloc::Global;
 
@@ -109,7 +109,11 @@ fn answer_watched(
 {
     let found = guard.scrub_first(node, alloc, port, &packet);
     let (reported, size) = answer_by(guard, node, alloc, port, packet, room);
-    ServedAnswer { reported, found, size }
+    ServedAnswer {
+        reported,
+        found,
+        size,
+    }
 }
 
 /// Serves one packet at a node of whose programs nothing is kept. The conditions are a port of the node, and room for
@@ -235,7 +239,13 @@ impl GuardedNode {
     /// nothing changes. The conditions are a port of the node, and room for any reply ([`MAX_REPLY`]).
     ///
     /// [`MAX_REPLY`]: rmap::MAX_REPLY
-    pub fn serve(&mut self, alloc: Global, port: u8, packet: Packet, room: &mut [u8]) -> ServedAnswer
+    pub fn serve(
+        &mut self,
+        alloc: Global,
+        port: u8,
+        packet: Packet,
+        room: &mut [u8],
+    ) -> ServedAnswer
         requires port { port < length self.old.node.passes }
         requires room { MAX_REPLY ≤ length room.old }
         ensures serves { ServesGuarded result port packet self.old self.new room.old room.new }

@@ -24,7 +24,7 @@ mod op_sums;
 pub use answer::ServedAnswer;
 pub use counting::Counting;
 pub use damage::BrokenBits;
-pub use guard::{ScrubFindings, Guard, Health, Scrubbed};
+pub use guard::{Guard, Health, ScrubFindings, Scrubbed};
 pub use guarded::GuardedNode;
 pub use kept::{OPEN, SlotSums};
 pub use op_sums::one_change_is_seen;

@@ -3,7 +3,7 @@
 ghost use Rattle.std.specs.Prelude.{◌≡◌};
 ghost use Rattle.single_node_c.specs.Finding.{found_number, found_slot, health_number};
 
-use scrub::{ScrubFindings, Health};
+use scrub::{Health, ScrubFindings};
 
 /// No scrub was due before the packet.
 pub const UNSCRUBBED: u8 = 0;

@@ -153,7 +153,12 @@ fn served_place_of(served: Served) -> u8
 impl ServedNumbers {
     /// The numbers of what became of a packet that asks for these parts. Its bank's journal then has that much room
     /// left, and its reply has that many bytes.
-    pub fn of(answer: ServedAnswer, parts: ServedParts, room: u32, reply_length: u32) -> ServedNumbers
+    pub fn of(
+        answer: ServedAnswer,
+        parts: ServedParts,
+        room: u32,
+        reply_length: u32,
+    ) -> ServedNumbers
         ensures { result ≡ served_numbers answer parts room reply_length }
     {
         ServedNumbers {

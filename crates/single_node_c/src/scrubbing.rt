@@ -67,7 +67,9 @@ fn is_unmended(health: Health) -> bool
 fn mended_bits(reported: Scrubbed) -> u8
     ensures { result ≡ mended_bits reported }
 {
-    let banks = mended_bit(reported.reads, 1) + mended_bit(reported.writes, 2) + mended_bit(reported.rmws, 4);
+    let banks = mended_bit(reported.reads, 1)
+        + mended_bit(reported.writes, 2)
+        + mended_bit(reported.rmws, 4);
     banks + mended_bit(reported.window, 8)
 }
 

@@ -80,7 +80,12 @@ fn operand(frame: MachineView<'_>, src: &Operand) -> Value
 }
 
 /// The write of a register. It is a trap if there is no value, or if the register is r10.
-fn write(frame: MachineView<'_>, register: Register, value: Option<Value>, slots: u32) -> InstructionEffect
+fn write(
+    frame: MachineView<'_>,
+    register: Register,
+    value: Option<Value>,
+    slots: u32,
+) -> InstructionEffect
     requires { slots ≤ 2 }
     ensures outcome { Writes frame.entry register value slots result }
     ensures placed { IsPlaced result }
@@ -102,7 +107,13 @@ fn write(frame: MachineView<'_>, register: Register, value: Option<Value>, slots
 }
 
 /// An operation on a register and a source.
-fn calculate(frame: MachineView<'_>, op: AluOp, width: Width, dst: Register, src: &Operand) -> InstructionEffect
+fn calculate(
+    frame: MachineView<'_>,
+    op: AluOp,
+    width: Width,
+    dst: Register,
+    src: &Operand,
+) -> InstructionEffect
     requires { AreNear (2 ^ 126) frame.registers.now }
     ensures outcome { Does frame.entry (Insn.Alu op width dst src.now) result }
     ensures placed { IsPlaced result }
@@ -186,7 +197,12 @@ fn load(frame: MachineView<'_>, size: LoadSize, base: Value, offset: i16) -> Opt
 }
 
 /// A load into a register, through the pointer in another.
-fn load_into(frame: MachineView<'_>, size: LoadSize, dst: Register, place: &MemoryOperand) -> InstructionEffect
+fn load_into(
+    frame: MachineView<'_>,
+    size: LoadSize,
+    dst: Register,
+    place: &MemoryOperand,
+) -> InstructionEffect
     requires { AreNear (2 ^ 126) frame.registers.now }
     ensures outcome { Does frame.entry (Insn.Load size dst place.now) result }
     ensures placed { IsPlaced result }
@@ -213,7 +229,12 @@ pub fn stored_at(base: Value, bytes: usize, distance: i16) -> Option<usize>
 }
 
 /// A store of a number through a register's pointer into the stack.
-fn store(frame: MachineView<'_>, size: Size, place: &MemoryOperand, src: &Operand) -> InstructionEffect
+fn store(
+    frame: MachineView<'_>,
+    size: Size,
+    place: &MemoryOperand,
+    src: &Operand,
+) -> InstructionEffect
     requires { AreNear (2 ^ 126) frame.registers.now }
     ensures outcome { Does frame.entry (Insn.Store size place.now src.now) result }
     ensures placed { IsPlaced result }
@@ -289,7 +310,13 @@ fn argument(frame: MachineView<'_>, helper: Helper) -> Option<u64>
 }
 
 /// The question of a helper for a key that the map has.
-fn question(frame: MachineView<'_>, sizes: &MapSizes, helper: Helper, map: u8, key: u16) -> InstructionEffect
+fn question(
+    frame: MachineView<'_>,
+    sizes: &MapSizes,
+    helper: Helper,
+    map: u8,
+    key: u16,
+) -> InstructionEffect
     ensures outcome { outcome_in frame.entry result
         ≡ asks_of sizes.now (state_in frame.entry) helper map key }
     ensures placed { IsPlaced result }

@@ -12,7 +12,7 @@ use Rattle.node_parts.specs.Passes.{PassValue}
 use Rattle.node_parts.specs.Steps.{IsBankBelow}
 use Rattle.node_parts.specs.Applied.{share_of, with_share, IsFinished}
 use Rattle.annals.specs.declared.deed.Act.TheVariants.{Leaves}
-use Rattle.annals.specs.declared.deed.Link.{Link}
+use Rattle.annals.specs.declared.deed.HistoryEntry.{HistoryEntry}
 use Rattle.annals.specs.Chains.{LineValue, line_with}
 use Rattle.annals.specs.Banks.{KeptValue, IsAppliedTo, IsDoneAtBank, IsRefusedAt, takes}
 use Rattle.annals.specs.Publishes.{PublishesGrow, publishes_of}
@@ -35,7 +35,7 @@ lent h k from place first at same below read =
     let within : from < length h.shares = omega (arith, same, same_k, low) in
     ap (share_of h) at ∙ ap (λ i. get_or h.shares i (first_share h.port)) (sym same) ∙ sym (get_or_read h.shares from first within read (first_share h.port))
 
-pub finished_at : (old new : KeptValue) (known reached : List Link) (h : PassValue) (k from : ℕ) (first share : ShareValue) (j : JudgedValue) (result : Applied) (reply : List ℕ) → j.place ≡ Bank k → from ≡ k → IsBankBelow j.place (length h.shares) → first ≡ get_or h.shares from first
+pub finished_at : (old new : KeptValue) (known reached : List HistoryEntry) (h : PassValue) (k from : ℕ) (first share : ShareValue) (j : JudgedValue) (result : Applied) (reply : List ℕ) → j.place ≡ Bank k → from ≡ k → IsBankBelow j.place (length h.shares) → first ≡ get_or h.shares from first
     → (takes old first j ≡ true → IsAppliedTo old.bank new.bank first share j result reply)
     → (takes old first j ≡ false → IsRefusedAt old new first share j result reply)
     → IfSome result.number (λ n. IsDoneAfter h.programs old.chain.number known reached first j result reply)
@@ -72,7 +72,7 @@ asked_at bank h k from first j result line after at same below read asked unaske
 
 -- A command that was done after what the port had learnt was done after what it knew. It was done after the publishes
 -- that it had learnt, too.
-pub done_after : (number : Option ℕ) (programs : List Publish) (bank : ℕ) (known reported reached front : List Link) (share : ShareValue) (j : JudgedValue) (result : Applied) (reply : List ℕ)
+pub done_after : (number : Option ℕ) (programs : List Publish) (bank : ℕ) (known reported reached front : List HistoryEntry) (share : ShareValue) (j : JudgedValue) (result : Applied) (reply : List ℕ)
     → PublishesGrow → IsPrefix known reported → IsPrefix programs (publishes_of reported)
     → IfSome number (λ n. front ≡ reached) → IfSome number (λ n. IsDoneAtBank bank reported reached share j result reply)
     → IfSome number (λ n. IsDoneAfter programs bank known front share j result reply)
@@ -90,7 +90,7 @@ done_after (Some n) programs bank known reported reached front share j result re
     }
 
 -- if the bank takes it, it ends as at a plain bank
-pub ends_plainly : (old new : KeptValue) (known reached : List Link) (h after : PassValue) (j : JudgedValue) (result : Applied) (reply : List ℕ) → IsFinishedAt old new known reached h after j result reply → takes old (share_of h j.place) j ≡ true → IsFinished old.bank new.bank h after j result reply
+pub ends_plainly : (old new : KeptValue) (known reached : List HistoryEntry) (h after : PassValue) (j : JudgedValue) (result : Applied) (reply : List ℕ) → IsFinishedAt old new known reached h after j result reply → takes old (share_of h j.place) j ≡ true → IsFinished old.bank new.bank h after j result reply
 ends_plainly old new known reached h after j result reply end took =
     let a = end.applied took in
     let fit = taken_fits old (share_of h j.place) j took in record {

@@ -15,7 +15,7 @@ use Rattle.node_parts.specs.Passes.{RunContextValue, pass_of}
 use Rattle.node_parts.specs.Steps.{IsAdmission, IsJudgedOnce, IsJudgement, IsTaken, IsPacketVerdict}
 use Rattle.target.specs.Steps.{IsJudgedByTaken}
 use Rattle.annals.specs.Shown.{IsTakenAtMoment}
-use Rattle.annals.specs.declared.deed.Link.{Link}
+use Rattle.annals.specs.declared.deed.HistoryEntry.{HistoryEntry}
 use Rattle.lemmas.proofs.Options.{some_same}
 
 -- program and generation of a slot, each by itself
@@ -69,10 +69,10 @@ judgement_of b left known seen shares staging admitted p j admission by =
     }
 
 -- a moment after what somebody saw is one after what this one had seen before
-pub taken_since : (known first reached : List Link) (programs : List Publish) → IsPrefix known first → IsTakenAtMoment first reached programs → IsTakenAtMoment known reached programs
+pub taken_since : (known first reached : List HistoryEntry) (programs : List Publish) → IsPrefix known first → IsTakenAtMoment first reached programs → IsTakenAtMoment known reached programs
 taken_since known first reached programs begins at = record {
   at = at.at;
-  after = (begins.0 ++ at.after.0, sym (append_assoc known begins.0 at.after.0) ∙ (ap (λ (l : List Link). l ++ at.after.0) begins.1 ∙ at.after.1));
+  after = (begins.0 ++ at.after.0, sym (append_assoc known begins.0 at.after.0) ∙ (ap (λ (l : List HistoryEntry). l ++ at.after.0) begins.1 ∙ at.after.1));
   before = at.before;
   seen = at.seen;
 }

@@ -7,13 +7,13 @@ use Rattle.node_programs.specs.declared.publishes.Publish.{Publish}
 use Rattle.node_parts.specs.Passes.{PassValue}
 use Rattle.node_parts.specs.Applied.{share_of, with_share}
 use Rattle.annals.specs.declared.deed.Act.TheVariants.{Leaves}
-use Rattle.annals.specs.declared.deed.Link.{Link}
+use Rattle.annals.specs.declared.deed.HistoryEntry.{HistoryEntry}
 use Rattle.annals.specs.Chains.{Due}
 use Rattle.annals.specs.Banks.{KeptValue, IsAppliedTo, IsDoneAtBank, IsRefusedAt, takes}
 use Rattle.annals.specs.Publishes.{publishes_of}
 
 -- the command was done at the bank, and those publishes are in the history before it
-pub record IsDoneAfter (programs : List Publish) (bank : ℕ) (known reached : List Link) (share : ShareValue)
+pub record IsDoneAfter (programs : List Publish) (bank : ℕ) (known reached : List HistoryEntry) (share : ShareValue)
     (judged : JudgedValue) (result : Applied) (bytes : List ℕ) : Type 0 where
   pub done : IsDoneAtBank bank known reached share judged result bytes
   pub published : IsPrefix programs (publishes_of done.last.before)
@@ -21,7 +21,7 @@ pub record IsDoneAfter (programs : List Publish) (bank : ℕ) (known reached : L
 -- How a judged command ends at a bank with its chain, by the port's own share of it. It is applied if the bank takes
 -- it, else refused. Of the port only that share changes. If it leaves an entry, that is the last of the history that
 -- the port then knows, after all publishes that the port knew.
-pub record IsFinishedAt (old new : KeptValue) (known reached : List Link) (holder after : PassValue)
+pub record IsFinishedAt (old new : KeptValue) (known reached : List HistoryEntry) (holder after : PassValue)
     (judged : JudgedValue) (result : Applied) (bytes : List ℕ) : Type 0 where
   pub share : ShareValue
   pub shares : after ≡ with_share holder judged.place share

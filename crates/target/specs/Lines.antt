@@ -6,7 +6,7 @@ use Rattle.rmap.specs.declared.places.Place.TheVariants.{Bank}
 use Rattle.bank.specs.Records.{ShareValue, first_share, numbers_of}
 use Rattle.node_parts.specs.Passes.{PassValue}
 use Rattle.node_parts.specs.Applied.{share_of}
-use Rattle.annals.specs.declared.deed.Link.{Link}
+use Rattle.annals.specs.declared.deed.HistoryEntry.{HistoryEntry}
 use Rattle.annals.specs.Chains.{LineValue}
 use Rattle.annals.specs.Banks.{IsCountOf, entries_of}
 
@@ -22,7 +22,7 @@ fresh_lines ports = map (λ port. record { port = port; asked = [] }) (range_wit
 
 -- At each bank the port's entries in that history have the numbers from 0 on, each once and in order. All are below the
 -- number of its share.
-abbrev pub CountsAllOf : PassValue → List Link → Type 0
+abbrev pub CountsAllOf : PassValue → List HistoryEntry → Type 0
 CountsAllOf h log =
     (k : ℕ) → k < length h.shares
     → IsPrefix (numbers_of h.port (entries_of k log)) (range_with_len 0 (share_of h (Bank k)).number)

@@ -4,7 +4,7 @@ use Rattle.spw.specs.Cargo.{Cargo}
 use Rattle.rmap.specs.Command.{command_of}
 use Rattle.bver.specs.Justified.{AcceptedValue}
 use Rattle.annals.specs.Shown.{IsTakenAtMoment}
-use Rattle.annals.specs.declared.deed.Link.{Link}
+use Rattle.annals.specs.declared.deed.HistoryEntry.{HistoryEntry}
 use Rattle.bank.specs.Records.{AdmittedValue, JudgedValue}
 use Rattle.node_programs.specs.declared.publishes.Publish.{Publish}
 use Rattle.node_parts.specs.Passes.{PassValue, RunContextValue}
@@ -21,7 +21,7 @@ pub record IsJudgedByTaken (known seen : List Publish) (old new : RunContextValu
   pub once : IsJudgedOnce program j.generation old new admitted j
 
 -- the programs by which a command was judged are those that readers saw at one moment of the history
-abbrev pub IsAtMoment : Step → (known reached : List Link) → (after : PassValue) → Type 0
+abbrev pub IsAtMoment : Step → (known reached : List HistoryEntry) → (after : PassValue) → Type 0
 IsAtMoment (Discarded d back) known reached after = Unit {0}
 IsAtMoment (Answered status back) known reached after = Unit {0}
 IsAtMoment (Unread back) known reached after = Unit {0}

@@ -58,7 +58,7 @@ pub fn finish<J: Family>(
     };
     publishes_grow();
     let mut known = front.again();
-    pass.loader.reader.tell(&mut known);
+    pass.loader.reader.announce(&mut known);
     let applied = kept.finish(
         &mut known,
         &mut pass.loader.line,

@@ -93,10 +93,10 @@ impl<J: Family> Pass<J> {
     }
 
     /// Somebody learns enough of the history that all which the port asked for is in it, done.
-    pub fn tell(&self, known: &mut Front<J>)
+    pub fn announce(&self, known: &mut Front<J>)
         ensures known { IsPrefix known.old known.new }
         ensures reported { IsPrefix self.now.asked (done_for self.now.pass.port known.new) }
     {
-        self.loader.line.tell(known);
+        self.loader.line.announce(known);
     }
 }

@@ -79,7 +79,7 @@ pub fn judge<J: Family>(
         Err((Stop::Discarded(discard), packet)) => return Step::Discarded(discard, packet),
         Err((Stop::Answered(status), packet)) => return Step::Answered(status, packet),
     };
-    pass.loader.line.tell(front);
+    pass.loader.line.announce(front);
     let judged = match judge_taken(&mut pass.context, &mut pass.loader.reader, front, admitted) {
         Ok(judged) => judged,
         Err(admitted) => {

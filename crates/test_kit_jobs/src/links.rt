@@ -90,7 +90,7 @@ impl Link for Wire<'_> {
         self.note(&text)
     }
 
-    fn tell(&mut self, text: &[u8]) -> Result<(), CannotTransfer> {
+    fn report(&mut self, text: &[u8]) -> Result<(), CannotTransfer> {
         let text = str::from_utf8(text).map_err(|_| CannotTransfer)?;
         self.note(text)
     }

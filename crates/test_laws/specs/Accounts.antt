@@ -1,7 +1,7 @@
 -- What laws say of a worker that served its port.
 use Rattle.std.specs.Prelude.{List, All}
 use mathlib.Core.List.{IsPrefix}
-use Rattle.annals.specs.declared.deed.Link.{Link}
+use Rattle.annals.specs.declared.deed.HistoryEntry.{HistoryEntry}
 use Rattle.spw.specs.Cargo.{Cargo}
 use Rattle.ports.specs.Due.{Deed, Standing, Worked, judgings}
 use Rattle.ports.specs.Laws.{AreAllEntries, AreAllPublishes, EntriesFollow, IsByPublished}
@@ -9,7 +9,7 @@ use Rattle.ports.specs.Laws.{AreAllEntries, AreAllPublishes, EntriesFollow, IsBy
 -- the port did what was due, and the history goes on from what it knows then. Each program that judged was published,
 -- and the entries of its commands are there in order. The history has no other entries and publishes of its port than
 -- these
-pub record IsAccounted (h after : Standing) (log : List Link) : Type 0 where
+pub record IsAccounted (h after : Standing) (log : List HistoryEntry) : Type 0 where
   pub packets : List Cargo
   pub deeds : List Deed
   pub worked : Worked h packets deeds after

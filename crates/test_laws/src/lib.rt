@@ -9,7 +9,7 @@ mod samples;
 mod schedules;
 mod workers;
 
-pub use alone::{served_alone, taken, reported};
+pub use alone::{reported, served_alone, taken};
 pub use calls::{fresh_cell, loads_reported, remade};
 pub use samples::a_sample_is_lawful;
 pub use schedules::{generation, ran};

@@ -32,7 +32,7 @@ pub fn accounted<J: Family, R: Wait, Q: Wait + Drop>(
     workers_publishes_are_all();
     let report = work(rt, alloc, node, port, worker, &NoGate);
     let mut known = worker.front.again();
-    worker.pass.tell(&mut known);
+    worker.pass.announce(&mut known);
     worker.pass.knows_entries(&known);
     (report, known)
 }

@@ -1,6 +1,6 @@
 use Rattle.std.proofs.Common.{◌∙◌, List, ℕ, subst, sym}
 use Rattle.std.specs.Prelude.{[], IfOk, slice_index_or, vec_items}
-use Rattle.annals.specs.declared.deed.Link.{Link}
+use Rattle.annals.specs.declared.deed.HistoryEntry.{HistoryEntry}
 use Rattle.ports.specs.Serves.{HaveServed}
 use Rattle.ports.specs.Sinks.{SentReply, SinkValue}
 use Rattle.ports.specs.declared.port.Port.{Port}
@@ -51,7 +51,7 @@ returns g c =
       served = serve_each own.desk _ _ _ here c.in_ok-sinks.ensures.all c.in_ok-sinks.ensures.sinks;
       law = subst (λ (ends : List PortEnd). IsOneLawfulHistory c.args.own.now c.args.program own.starts (λ port. slice_index_or c.args.arrivals port []) ends each.history.whole)
           (sym (each_ends own.desk _ _ _ here c.in_ok-sinks.ensures.all c.in_ok-sinks.ensures.sinks))
-          (subst (λ (whole : List Link). IsOneLawfulHistory c.args.own.now c.args.program own.starts (λ port. slice_index_or c.args.arrivals port []) (ends_of (vec_items c.serve-workers.result.0) here.reports) whole)
+          (subst (λ (whole : List HistoryEntry). IsOneLawfulHistory c.args.own.now c.args.program own.starts (λ port. slice_index_or c.args.arrivals port []) (ends_of (vec_items c.serve-workers.result.0) here.reports) whole)
           (sym (each_whole own.desk _ _ _ here c.in_ok-sinks.ensures.all c.in_ok-sinks.ensures.sinks))
           (own_law own c.threads_are_lawful.ensures c.workers_shares_count.ensures c.requires.sizes _ _ here));
       quotas = subst (λ (ends : List PortEnd). QuotasAreKept c.args.own.now.sizes ends)

@@ -2,7 +2,7 @@ use Rattle.std.proofs.Common.{◌≡◌, ◌∙◌, ◌<◌, List, ap, arith, le
 use Rattle.std.specs.Prelude.{string_bytes}
 use Rattle.std.proofs.lemmas.List.{length-map}
 use Rattle.std.proofs.lemmas.Result.{err_from_is_err_and}
-use Rattle.annals.specs.declared.deed.Link.{Link}
+use Rattle.annals.specs.declared.deed.HistoryEntry.{HistoryEntry}
 use Rattle.job_ports.specs.Arrivals.{ArriveAll, packets_at}
 use Rattle.job_ports.specs.Law.{IsOneLawfulHistory}
 use Rattle.spw.specs.Line.{lines_of}
@@ -37,7 +37,7 @@ returns-clause-served g c =
         lines = all.lines_are;
         are_starts = each.are_starts;
         served = by_packets _ _ _ _ _ _ all each.served;
-        law = subst (λ (whole : List Link). IsOneLawfulHistory own c.in_ok-text.read.program each.starts (λ port. packets_at port all.packets) each.served.ends whole)
+        law = subst (λ (whole : List HistoryEntry). IsOneLawfulHistory own c.in_ok-text.read.program each.starts (λ port. packets_at port all.packets) each.served.ends whole)
             (sym (packets_whole _ _ _ _ _ _ all each.served)) (law_by_packets own c.in_ok-text.read.program each.starts all.packets c.in_ok-arrivals.arrivals each.served.ends each.served.history.whole all.sorted each.law);
         quotas = each.quotas;
       };

@@ -5,11 +5,11 @@ use Rattle.lemmas.proofs.Prefixes.{both_begin, prefix_trans}
 use Rattle.ports.proofs.packet.know.Goals as goal
 
 pub returns-clause-seen : goal.returns-clause-seen
-returns-clause-seen g c = prefix_trans _ c.tell.new.known _ c.tell.ensures.known c.tell-2.ensures.old
+returns-clause-seen g c = prefix_trans _ c.announce.new.known _ c.announce.ensures.known c.announce-2.ensures.old
 
 pub returns-clause-published : goal.returns-clause-published
-returns-clause-published g c = both_begin _ _ c.knows_all.ensures.begins c.tell-2.ensures.reported
+returns-clause-published g c = both_begin _ _ c.knows_all.ensures.begins c.announce-2.ensures.reported
 
 pub returns-clause-did : goal.returns-clause-did
 returns-clause-did g c =
-    both_begin _ _ c.knows_entries.ensures.begins (prefix_trans _ _ _ c.tell.ensures.reported (c.acts_grow.ensures _ _ _ c.tell-2.ensures.old))
+    both_begin _ _ c.knows_entries.ensures.begins (prefix_trans _ _ _ c.announce.ensures.reported (c.acts_grow.ensures _ _ _ c.announce-2.ensures.old))

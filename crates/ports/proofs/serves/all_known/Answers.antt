@@ -10,10 +10,10 @@ use Rattle.ports.proofs.serves.all_known.Goals as goal
 pub loop-one-preserved : goal.loop-one-preserved
 loop-one-preserved g c =
     let old = c.loop-one.known in
-    let new = c.tell.new.known in
-    let longer : IsPrefix old new = prefix_trans old c.learn.new.self new c.learn.ensures.this c.tell.ensures.known in
+    let new = c.announce.new.known in
+    let longer : IsPrefix old new = prefix_trans old c.learn.new.self new c.learn.ensures.this c.announce.ensures.known in
     known_more c.acts_grow.ensures c.loop-one.one-index c.args.ended.now old new c.one-item.result c.loop-one-test.true longer
-    (subst (λ e. IsWorkerInformed new e.worker) c.one-item.is (prefix_trans _ c.learn.new.self new c.learn.ensures.that c.tell.ensures.known, c.tell.ensures.reported)) c.loop-one.invariant
+    (subst (λ e. IsWorkerInformed new e.worker) c.one-item.is (prefix_trans _ c.learn.new.self new c.learn.ensures.that c.announce.ensures.known, c.announce.ensures.reported)) c.loop-one.invariant
 
 pub returns-clause-reported : goal.returns-clause-reported
 returns-clause-reported g c = λ k d within.

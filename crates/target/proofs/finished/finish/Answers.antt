@@ -6,7 +6,7 @@ use Rattle.rmap.specs.declared.places.Place.TheVariants.{Bank}
 use Rattle.node_parts.specs.Passes.{pass_of}
 use Rattle.node_parts.specs.Steps.{IsBankBelow}
 use Rattle.node_parts.specs.Applied.{share_of}
-use Rattle.annals.specs.declared.deed.Link.{Link}
+use Rattle.annals.specs.declared.deed.HistoryEntry.{HistoryEntry}
 use Rattle.target.specs.Finished.{AsksForEntry, IsFinishedAt}
 use Rattle.target.specs.Passes.{PortPass}
 use Rattle.target.proofs.Finishing.{asked_at, done_after, ends_plainly, finished_at, taken_fits}
@@ -49,8 +49,8 @@ returns-clause-finished g c =
     let h = pass_of inside.context inside.loader.reader.programs inside.shares.items inside.staging in
     let done = c.finish-applied.ensures in
     let below = subst (λ (x : PortPass). IsBankBelow c.args.judged.place (length x.pass.shares)) (sym c.pass.view_is) c.requires in
-    let reported = subst (λ (l : List Link). IsPrefix l c.tell.new.known) c.again-known.ensures c.tell.ensures.old in
-    let following = done_after _ _ _ _ _ _ _ _ _ _ _ c.publishes_grow.ensures reported c.tell.ensures.reported c.advance.ensures.some done.done in
+    let reported = subst (λ (l : List HistoryEntry). IsPrefix l c.announce.new.known) c.again-known.ensures c.announce.ensures.old in
+    let following = done_after _ _ _ _ _ _ _ _ _ _ _ c.publishes_grow.ensures reported c.announce.ensures.reported c.advance.ensures.some done.done in
     let after = pass_of inside.context inside.loader.reader.programs (set inside.shares.items c.from.result c.finish-applied.new.share) inside.staging in
     let end : IsFinishedAt c.args.kept.now c.finish-applied.new.self c.args.front.now c.advance.new.front h after c.args.judged c.finish-applied.result c.finish-applied.new.reply
     = finished_at _ _ _ _ h c.in-Bank.k c.from.result c.index_mut.result.now c.finish-applied.new.share _ _ _ (sym c.place.ensures.value ∙ c.in-Bank.is) c.from.ensures below c.index_mut.ensures.value done.applied done.refused following c.advance.ensures.none in

@@ -19,4 +19,4 @@ returns-clause-step g c =
 
 pub returns-clause-moment : goal.returns-clause-moment
 returns-clause-moment g c =
-    taken_since c.args.front.now c.tell.new.front c.judge_taken.new.front c.judge_taken.new.reader.programs c.tell.ensures.known c.in-Ok-judge_taken.ensures.moment
+    taken_since c.args.front.now c.announce.new.front c.judge_taken.new.front c.judge_taken.new.reader.programs c.announce.ensures.known c.in-Ok-judge_taken.ensures.moment

@@ -13,10 +13,10 @@ pub returns : goal.returns
 returns g c =
     let worked = c.work-report.ensures.worked in
     let after = standing_of c.work-report.new.worker in
-    let known = c.tell.new.known in
-    let knows : IsPrefix after.front known = subst (λ (front : List _). IsPrefix front known) c.again-known.ensures c.tell.ensures.known in
+    let known = c.announce.new.known in
+    let knows : IsPrefix after.front known = subst (λ (front : List _). IsPrefix front known) c.again-known.ensures c.announce.ensures.known in
     let counts : CountsAllOf after.pass known = c.knows_entries.ensures.entries in
-    let own : done_for after.pass.port known ≡ after.asked = both_begin (done_for after.pass.port known) after.asked c.knows_entries.ensures.begins c.tell.ensures.reported in
+    let own : done_for after.pass.port known ≡ after.asked = both_begin (done_for after.pass.port known) after.asked c.knows_entries.ensures.begins c.announce.ensures.reported in
     let all : IsAccounted (standing_of c.args.worker.now) after known = record {
       packets = worked.packets;
       deeds = worked.served.deeds;

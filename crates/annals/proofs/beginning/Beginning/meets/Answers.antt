@@ -1,11 +1,11 @@
 use Rattle.std.proofs.Common.{ap, subst, List}
 use mathlib.Core.List.{IsPrefix}
-use Rattle.annals.specs.declared.deed.Link.{Link}
+use Rattle.annals.specs.declared.deed.HistoryEntry.{HistoryEntry}
 use Rattle.lemmas.proofs.Prefixes.{prefix_either}
 use Rattle.annals.proofs.beginning.Beginning.meets.Goals as goal
 
 pub returns : goal.returns
 returns c =
     let both = c.learn.new.self.log in
-    let this : IsPrefix c.self.inside.seen.log both = subst (λ (l : List Link). IsPrefix l both) (ap (λ s. s.log) c.again-both.ensures) c.learn.ensures.2 in
+    let this : IsPrefix c.self.inside.seen.log both = subst (λ (l : List HistoryEntry). IsPrefix l both) (ap (λ s. s.log) c.again-both.ensures) c.learn.ensures.2 in
     rw (← c.self.view_is, ← c.other.view_is) (prefix_either c.self.inside.seen.log c.other.inside.seen.log both this c.learn.ensures.3)

@@ -8,7 +8,7 @@ returns-clause-added g c =
         before = added.last.before;
         next = added.last.next;
         log = added.last.log;
-        seen = prefix_trans c.args.front.now c.tell.new.front added.last.before c.tell.ensures.front added.last.seen;
+        seen = prefix_trans c.args.front.now c.announce.new.front added.last.before c.announce.ensures.front added.last.seen;
       };
       whole = added.whole;
       asked = added.asked;

@@ -1,6 +1,6 @@
 use Rattle.std.proofs.Common.{◌≡◌, ◌<◌, ◌==◌, ℕ, sym, refl, ◌∙◌, ap, subst, arith, [], MatchBool}
 use Rattle.std.proofs.lemmas.Bool.Decides.{nat_tests}
-use Rattle.annals.specs.declared.deed.Link.{Link}
+use Rattle.annals.specs.declared.deed.HistoryEntry.{HistoryEntry}
 use Rattle.annals.specs.Banks.{after_deed, zeros, with_entry}
 use Rattle.annals.specs.Chains.{IsFirstOfChain, with_asked}
 use Rattle.annals.proofs.Turns.{begins_moves, added_next, added_some, known_word, first_memory, first_entries, first_asked}
@@ -41,7 +41,7 @@ invariant_of-result g c =
     let v = c.again-seen.result.log in
     let w = c.compare_exchange-found.new.seen.log in
     let n = c.tracked-head.result.key in
-    let chain : e.chain ≡ n = ap (λ (l : Link). l.chain) c.plain-offer.ensures.1 in
+    let chain : e.chain ≡ n = ap (λ (l : HistoryEntry). l.chain) c.plain-offer.ensures.1 in
     let first : IsFirstOfChain v w e = subst (λ (f : ℕ). MatchBool (f == 0) (IsFirstOfChain v w e) (Unit {0})) found step.7 in
     let added = first.added in
     record {
@@ -50,7 +50,7 @@ invariant_of-result g c =
       book = c.drawn-fresh.ensures.book ∙ (seen ∙ home);
       seen_is = step.0 ∙ (seen ∙ home);
       right = c.drawn-fresh.ensures.right;
-      key = sym (added_next n v w e chain added ∙ ap (λ (l : Link). l.next) c.plain-offer.ensures.1);
+      key = sym (added_next n v w e chain added ∙ ap (λ (l : HistoryEntry). l.next) c.plain-offer.ensures.1);
       some = added_some n v w e chain added;
     }
 
@@ -62,9 +62,9 @@ returns-clause-memory g c =
     let v = c.again-seen.result.log in
     let w = c.compare_exchange-found.new.seen.log in
     let n = c.tracked-head.result.key in
-    let chain : e.chain ≡ n = ap (λ (l : Link). l.chain) c.plain-offer.ensures.1 in
+    let chain : e.chain ≡ n = ap (λ (l : HistoryEntry). l.chain) c.plain-offer.ensures.1 in
     let first : IsFirstOfChain v w e = subst (λ (f : ℕ). MatchBool (f == 0) (IsFirstOfChain v w e) (Unit {0})) found step.7 in
-    first_memory n v w e chain first ∙ ap (λ (l : Link). after_deed (zeros (0, 0)) l.deed) c.plain-offer.ensures.1
+    first_memory n v w e chain first ∙ ap (λ (l : HistoryEntry). after_deed (zeros (0, 0)) l.deed) c.plain-offer.ensures.1
 
 pub returns-clause-entries : goal.returns-clause-entries
 returns-clause-entries g c =
@@ -74,9 +74,9 @@ returns-clause-entries g c =
     let v = c.again-seen.result.log in
     let w = c.compare_exchange-found.new.seen.log in
     let n = c.tracked-head.result.key in
-    let chain : e.chain ≡ n = ap (λ (l : Link). l.chain) c.plain-offer.ensures.1 in
+    let chain : e.chain ≡ n = ap (λ (l : HistoryEntry). l.chain) c.plain-offer.ensures.1 in
     let first : IsFirstOfChain v w e = subst (λ (f : ℕ). MatchBool (f == 0) (IsFirstOfChain v w e) (Unit {0})) found step.7 in
-    first_entries n v w e chain first ∙ ap (λ (l : Link). with_entry l.deed []) c.plain-offer.ensures.1
+    first_entries n v w e chain first ∙ ap (λ (l : HistoryEntry). with_entry l.deed []) c.plain-offer.ensures.1
 
 pub returns-clause-asked : goal.returns-clause-asked
 returns-clause-asked g c =
@@ -86,9 +86,9 @@ returns-clause-asked g c =
     let v = c.again-seen.result.log in
     let w = c.compare_exchange-found.new.seen.log in
     let n = c.tracked-head.result.key in
-    let chain : e.chain ≡ n = ap (λ (l : Link). l.chain) c.plain-offer.ensures.1 in
+    let chain : e.chain ≡ n = ap (λ (l : HistoryEntry). l.chain) c.plain-offer.ensures.1 in
     let first : IsFirstOfChain v w e = subst (λ (f : ℕ). MatchBool (f == 0) (IsFirstOfChain v w e) (Unit {0})) found step.7 in
-    first_asked n v w e chain first ∙ ap (λ (l : Link). with_asked l.deed []) c.plain-offer.ensures.1
+    first_asked n v w e chain first ∙ ap (λ (l : HistoryEntry). with_asked l.deed []) c.plain-offer.ensures.1
 
 pub returns-clause-publishes : goal.returns-clause-publishes
 returns-clause-publishes g c =
@@ -98,6 +98,6 @@ returns-clause-publishes g c =
     let v = c.again-seen.result.log in
     let w = c.compare_exchange-found.new.seen.log in
     let n = c.tracked-head.result.key in
-    let chain : e.chain ≡ n = ap (λ (l : Link). l.chain) c.plain-offer.ensures.1 in
+    let chain : e.chain ≡ n = ap (λ (l : HistoryEntry). l.chain) c.plain-offer.ensures.1 in
     let first : IsFirstOfChain v w e = subst (λ (f : ℕ). MatchBool (f == 0) (IsFirstOfChain v w e) (Unit {0})) found step.7 in
-    first_publishes n v w e chain first ∙ ap (λ (l : Link). with_publish l.deed []) c.plain-offer.ensures.1
+    first_publishes n v w e chain first ∙ ap (λ (l : HistoryEntry). with_publish l.deed []) c.plain-offer.ensures.1

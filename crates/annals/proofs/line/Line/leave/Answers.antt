@@ -3,20 +3,20 @@ use mathlib.Core.List.{IsPrefix}
 use Rattle.annals.specs.declared.deed.Act.{Act}
 use Rattle.annals.specs.declared.deed.Deed.{Deed}
 use Rattle.annals.specs.declared.deed.Deed.TheVariants.{Does, Asks}
-use Rattle.annals.specs.declared.deed.Link.{Link}
+use Rattle.annals.specs.declared.deed.HistoryEntry.{HistoryEntry}
 use Rattle.annals.specs.Chains.{ChainValue, Due, IsDue, IsLastOf, IsLineChain, LineValue, asked_by, asked_in, chain_of, done_for, line_chain_of, line_with, link, owner_of}
 use Rattle.lemmas.proofs.Prefixes.{prefix_trans}
 use Rattle.annals.proofs.Dues.{all_left, asked_more, asks_next, between_same}
 use Rattle.annals.proofs.line.Line.leave.Goals as goal
 
 -- what was known begins what was reached with one more
-begins_last : (chain : ChainValue) (seen known reached : List Link) (deed : Deed) → IsPrefix seen known → IsLastOf chain known reached deed → IsPrefix seen reached
+begins_last : (chain : ChainValue) (seen known reached : List HistoryEntry) (deed : Deed) → IsPrefix seen known → IsLastOf chain known reached deed → IsPrefix seen reached
 begins_last chain seen known reached deed pre is =
     let before = is.last.before in
     prefix_trans seen known reached pre (prefix_trans known before reached is.last.seen (_, sym is.last.log))
 
 -- what a line asks for is due then
-due_then : (port bank : ℕ) (e : Act) (own : ChainValue) (left known reached : List Link) → IsLineChain port own left → IsPrefix left known → IsLastOf own known reached (Asks (bank, e))
+due_then : (port bank : ℕ) (e : Act) (own : ChainValue) (left known reached : List HistoryEntry) → IsLineChain port own left → IsPrefix left known → IsLastOf own known reached (Asks (bank, e))
     → asked_by port reached ≡ done_for port reached ++ (bank, e) ∷ []
 due_then port bank e own left known reached is pre asked =
     let before = asked.last.before in
@@ -27,7 +27,7 @@ due_then port bank e own left known reached is pre asked =
     asks_next port place asked.last.next own.log before left reached (bank, e) asked.asked same is.left (prefix_trans left known before pre asked.last.seen) more
 
 -- and the line asked for it after what it asked for before
-asked_then : (port bank : ℕ) (e : Act) (own : ChainValue) (left known reached : List Link) → IsLineChain port own left → IsLastOf own known reached (Asks (bank, e))
+asked_then : (port bank : ℕ) (e : Act) (own : ChainValue) (left known reached : List HistoryEntry) → IsLineChain port own left → IsLastOf own known reached (Asks (bank, e))
     → asked_by port reached ≡ asked_by port own.log ++ (bank, e) ∷ []
 asked_then port bank e own left known reached is asked =
     let before = asked.last.before in
@@ -35,10 +35,10 @@ asked_then port bank e own left known reached is asked =
     let place = length (chain_of own.number before) in
     let more : reached ≡ before ++ link (line_chain_of port) place (Asks (bank, e)) asked.last.next ∷ [] =
     asked.last.log ∙ ap (λ (n : ℕ). before ++ link n place (Asks (bank, e)) asked.last.next ∷ []) is.number in
-    ap (asked_by port) more ∙ (asked_more port place asked.last.next before (bank, e) ∙ ap (λ (ls : List Link). asked_in ls ++ (bank, e) ∷ []) same)
+    ap (asked_by port) more ∙ (asked_more port place asked.last.next before (bank, e) ∙ ap (λ (ls : List HistoryEntry). asked_in ls ++ (bank, e) ∷ []) same)
 
 -- after the bank has it, all that the line asked for was left
-left_then : (port bank : ℕ) (e : Act) (chain : ChainValue) (known reached : List Link) → owner_of e ≡ port → chain.number ≡ bank → IsPrefix chain.log known
+left_then : (port bank : ℕ) (e : Act) (chain : ChainValue) (known reached : List HistoryEntry) → owner_of e ≡ port → chain.number ≡ bank → IsPrefix chain.log known
     → asked_by port known ≡ done_for port known ++ (bank, e) ∷ [] → IsLastOf chain known reached (Does e) → IsPrefix (asked_by port known) (done_for port reached)
 left_then port bank e chain known reached own is pre due added =
     let before = added.last.before in
@@ -50,7 +50,7 @@ left_then port bank e chain known reached own is pre due added =
 pub push-requires-clause-begins : goal.push-requires-clause-begins
 push-requires-clause-begins g c =
     begins_last c.self.inside.chain c.args.chain.now.log c.learn.new.self c.add.new.front (Asks (c.args.number, (g.A.AnnouncesAct.act c.args.act.now)))
-    (prefix_trans c.args.chain.now.log c.tell.new.front c.learn.new.self c.tell.ensures.chain c.learn.ensures.this) c.add.ensures.added
+    (prefix_trans c.args.chain.now.log c.announce.new.front c.learn.new.self c.announce.ensures.chain c.learn.ensures.this) c.add.ensures.added
 
 pub push-requires-clause-due : goal.push-requires-clause-due
 push-requires-clause-due g c =
@@ -71,19 +71,19 @@ invariant_of-self g c =
     let due = due_then port c.args.number e c.self.inside.chain c.self.inside.left c.learn.new.self front c.self.invariant c.learn.ensures.that c.add.ensures.added in
     let own : owner_of e ≡ port = c.requires.own ∙ sym (ap (λ (l : LineValue). l.port) c.self.view_is) in
     let begins = begins_last c.self.inside.chain chain.log c.learn.new.self front (Asks (c.args.number, e))
-    (prefix_trans chain.log c.tell.new.front c.learn.new.self c.tell.ensures.chain c.learn.ensures.this) c.add.ensures.added in
+    (prefix_trans chain.log c.announce.new.front c.learn.new.self c.announce.ensures.chain c.learn.ensures.this) c.add.ensures.added in
     let all : IsPrefix (asked_by port front) (done_for port c.push.new.front) = left_then port c.args.number e chain front c.push.new.front own c.requires.chain begins due c.push.ensures.added in
     record {
       number = c.add.ensures.number ∙ c.self.invariant.number;
-      left = subst (λ (l : List Link). IsPrefix (asked_by port l) (done_for port c.again.result)) (sym c.add.ensures.log)
-          (subst (λ (l : List Link). IsPrefix (asked_by port front) (done_for port l)) (sym c.again.ensures) all);
+      left = subst (λ (l : List HistoryEntry). IsPrefix (asked_by port l) (done_for port c.again.result)) (sym c.add.ensures.log)
+          (subst (λ (l : List HistoryEntry). IsPrefix (asked_by port front) (done_for port l)) (sym c.again.ensures) all);
     }
 
 pub returns-clause-added : goal.returns-clause-added
 returns-clause-added g c =
     let added = c.push.ensures.added in
     let known : IsPrefix c.args.front.now c.add.new.front = begins_last c.self.inside.chain c.args.front.now c.learn.new.self c.add.new.front (Asks (c.args.number, (g.A.AnnouncesAct.act c.args.act.now)))
-    (prefix_trans c.args.front.now c.tell.new.front c.learn.new.self c.tell.ensures.front c.learn.ensures.this) c.add.ensures.added in
+    (prefix_trans c.args.front.now c.announce.new.front c.learn.new.self c.announce.ensures.front c.learn.ensures.this) c.add.ensures.added in
     record {
       last = record {
         before = added.last.before;

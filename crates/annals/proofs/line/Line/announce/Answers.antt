@@ -3,7 +3,7 @@ use mathlib.Core.List.{IsPrefix}
 use Rattle.annals.specs.Chains.{LineValue, asked_by, done_for}
 use Rattle.lemmas.proofs.Prefixes.{prefix_trans}
 use Rattle.annals.proofs.Dues.{done_prefix}
-use Rattle.annals.proofs.line.Line.tell.Goals as goal
+use Rattle.annals.proofs.line.Line.announce.Goals as goal
 
 pub returns-clause-reported : goal.returns-clause-reported
 returns-clause-reported g c =
