@@ -8,8 +8,8 @@ loop-place-preserved c =
     reports_more (PrintsLine c.args.ports.now c.args.at.now c.args.chart.now) c.loop-place.place c.args.rows.now.items c.loop-place.rows.items c.add_line.new.rows.items
     c.loop-place.invariant c.in_ok-add_line.ensures
 
-pub add_line-requires-clause-told : goal.add_line-requires-clause-told
-add_line-requires-clause-told c = record {
+pub add_line-requires-clause-reported : goal.add_line-requires-clause-told
+add_line-requires-clause-reported c = record {
   first = c.args.rows.now.items;
   counted = ap (λ rows. length rows) c.as_slice-from.ensures.value;
   reported = c.loop-place.invariant;
