@@ -8,7 +8,7 @@ loop-place-preserved c =
     reports_more (PrintsLine c.args.ports.now c.args.at.now c.args.chart.now) c.loop-place.place c.args.rows.now.items c.loop-place.rows.items c.add_line.new.rows.items
     c.loop-place.invariant c.in_ok-add_line.ensures
 
-pub add_line-requires-clause-reported : goal.add_line-requires-clause-told
+pub add_line-requires-clause-reported : goal.add_line-requires-clause-reported
 add_line-requires-clause-reported c = record {
   first = c.args.rows.now.items;
   counted = ap (λ rows. length rows) c.as_slice-from.ensures.value;
