@@ -142,7 +142,8 @@ fn decide_admitted<W: Write>(
     command: &Command,
     out: &mut W,
 ) -> Result<(), LineStop>
-    ensures reported { OnOk result (PrintsDecision at.entry.port at.entry.policy.now command.now counts.old counts.new
+    ensures reported { OnOk result
+        (PrintsDecision at.entry.port at.entry.policy.now command.now counts.old counts.new
         (W.contents out.old) (W.contents out.new)) }
     ensures stops { IfErr result (StopsLineBy (IsMemoryRefused (W.contents out.old) (W.contents out.new))) }
 {

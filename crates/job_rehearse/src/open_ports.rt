@@ -51,7 +51,8 @@ fn port_answers(
 ) -> Result<Vec<Passing>, AllocError>
     requires ports { node.ports ≤ 32 }
     requires short { length image.now ≤ STAGING_SIZE }
-    ensures { IfOk result (λ answers. AreOpen judge.now image.now node asker node.ports answers.items) }
+    ensures { IfOk result (λ answers.
+        AreOpen judge.now image.now node asker node.ports answers.items) }
 {
     let mut answers = Vec::new(alloc);
     for port in 0..node.ports {
@@ -227,7 +228,8 @@ fn add_askers(
 ) -> Result<(), AllocError>
     requires ports { node.ports ≤ 32 }
     requires short { length image.now ≤ STAGING_SIZE }
-    ensures { OnOk result (PrintsFirstAskers judge.now image.now node lead.now askers.now (length askers.now)
+    ensures { OnOk result
+        (PrintsFirstAskers judge.now image.now node lead.now askers.now (length askers.now)
         (string_bytes text.old) (string_bytes text.new)) }
 {
     for place in 0..askers.len() {
