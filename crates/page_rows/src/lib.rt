@@ -14,7 +14,7 @@
 //! | 0 | any that has no rows, also if a fault was printed | nothing |
 //! | 1 | `map` | the list of its rows, the list of its notes, and a flag: whether these are all |
 //! | 2 | `compare` | the list of its differences, which is empty if it printed `same` |
-//! | 3 | `rehearse --any` | the option of the size of the image, a number, and the list of its loaders |
+//! | 3 | `rehearse --any` | the list of its loaders, which is empty if nobody loads |
 //! | 4 | `decide` | the list of its decisions |
 //!
 //! Each of these is in the order in which it is printed, and one after another has these parts:
@@ -36,9 +36,14 @@
 //! - A packet: a piece, its bytes; a number, its end (0 is EOP, 1 is EEP); and a number for what the node does with it.
 //!   0: it brings it to its table. 1: a check of its header answers it, with the status that comes next, a number.
 //!   2: the node discards it. Its port is the first of the ports of its row.
-//! - A loader: two numbers, its first and its last port; the option of its initiator, a number, and that of its key,
-//!   none if it is any that no rule names; and a number for when its loads pass: 0 always, 1 until quotas are spent, 2
-//!   only after quotas are spent. If the list is empty, nobody loads.
-//! - A decision: a number, its port; the option of what the table decides: the verdict, a number, and the option of the
-//!   line of the rule, a number; and the list of its printed lines, each a text without its line feed.
+//! - A loader: two numbers, its first and its last port; its initiator and its key; and a number for when its loads
+//!   pass (0: always, 1: until quotas are spent, 2: only after quotas are spent). An initiator or a key is a flag and a
+//!   number: 1 and the value, or 0 and the least value that no rule names, if it is any of these (`*`).
+//! - A decision: a number, its port; a number for who decides; and the list of its printed lines, each a text without its
+//!   line feed. Who decides: 0 is the table, and after it come the verdict, a number, and the option of the line of the
+//!   rule, a number. 1 is a check of the header, and after it comes the status, a number. 2 is nobody: the packet is
+//!   discarded.
+//!
+//! Words that ended with a fault have no rows: their number is 0. If they have rows, the exit status says the rest: that
+//! of a map which is cut is 1.
 #![tactic(auto)]
