@@ -3,6 +3,7 @@
 ghost use Rattle.std.specs.Prelude.{◌≡◌, ℕ, List, [], IfOk, MatchOption, MatchResult, None, OnOk, Some, false, true};
 ghost use Rattle.commands.specs.Desks.{DeskWords};
 
+use job_rows::JobRows;
 use crate::noted::FileCause;
 use crate::serving::Serves;
 use job_live::talk::Talk;
@@ -94,6 +95,10 @@ pub trait Desk {
 
     /// Who serves all ports at once.
     fn server(&self) -> Self::Server;
+
+    /// Takes the rows of which a job printed its output, after standard output was ended.
+    fn keep_rows(&mut self, rows: JobRows)
+        ensures { words.keeps self.old rows self.new };
 
     /// Prints a text beside standard output, if there was memory for it.
     ///

@@ -173,9 +173,10 @@ fn end_job<D: Desk + Drop>(
     match (done, closed) {
         (Ok(end), Ok(())) => {
             let reported = files.end_report(alloc, job, &end);
-            let status = end.status;
-            let desk = files.into_desk();
+            let JobEnd { status, rows, .. } = end;
+            let mut desk = files.into_desk();
             desk.report(reported)?;
+            desk.keep_rows(rows);
             Ok(Left {
                 desk,
                 end: End::Ended(status),

@@ -1,16 +1,17 @@
 //! The jobs of `rmapctl`.
 
-ghost use Rattle.std.specs.Prelude.{◌≡◌, IfErr, IfOk, option_map};
+ghost use Rattle.std.specs.Prelude.{◌≡◌, IfErr, IfOk, false, option_map};
 ghost use Rattle.commands.specs.Jobs.{are_talked, facts_of, made_of, maps_of_node, names_of_job};
-ghost use Rattle.commands.specs.Performed.{CanDo, IsJobDone, IsJobEnded, Performs};
+ghost use Rattle.commands.specs.Performed.{CanDo, IsJobDone, IsJobEnded, Performs, PerformsSome, has_rows};
 ghost use Rattle.job_parts.specs.Arguments.{name_in};
 ghost use Rattle.job_parts.specs.Stops.{StopsBy};
 
 use crate::facts::Facts;
+use job_rows::{JobRows, compare_rows, map_rows};
 use crate::read_names::{ReadNames, lent, order_name, place_name, source_name};
 use crate::serving::{Serves, Threaded};
-use job_charts::compare::{CompareWords, compare_file};
-use job_charts::map::{MapWords, map_file};
+use job_charts::compare::CompareWords;
+use job_charts::map::MapWords;
 use job_codes::explain::{ExplainWords, explain};
 use job_codes::why::why_file;
 use job_config::node_lines::NodeLines;
@@ -214,10 +215,12 @@ pub struct JobEnd<'a> {
     pub full: Option<FullJournals>,
     /// Of `serve` how many replies were lost, since memory to keep them was refused.
     pub lost: u64,
+    /// The rows of which its output was printed, if it has rows.
+    pub rows: JobRows,
 }
 
-/// Does a job, up to its end or the fault that ends it. The fault is not printed yet. `full` and `lost` are as in
-/// [`JobEnd`].
+/// Does a job, up to its end or the fault that ends it. The fault is not printed yet. `full`, `lost` and `rows` are as
+/// in [`JobEnd`].
 fn attempt<'a, S: Serves, F: Files, W: Write>(
     alloc: Global,
     server: &S,
@@ -226,11 +229,13 @@ fn attempt<'a, S: Serves, F: Files, W: Write>(
     out: &mut W,
     full: &mut Option<FullJournals>,
     lost: &mut u64,
+    rows: &mut JobRows,
 ) -> Result<ExitStatus, JobStop<'a>>
     requires can { CanDo S.serves job.now }
     requires shared { S.shares }
     ensures done { IfOk result (IsJobDone F.reads F.writes job.now files.old files.new
-        (W.contents out.old) (W.contents out.new)) }
+        (W.contents out.old) (W.contents out.new) rows.new) }
+    ensures rows { has_rows job.now ≡ false → rows.new ≡ rows.old }
     ensures stops { IfErr result (StopsBy (IsJobEnded F.reads F.writes job.now files.old files.new
         (W.contents out.old) (W.contents out.new))) }
 {
@@ -252,8 +257,8 @@ fn attempt<'a, S: Serves, F: Files, W: Write>(
         Job::Packet(words) => packet_file(alloc, words, files, out),
         Job::Show(words) => show_file(alloc, words.lines.as_str(), files, out),
         Job::Decide(words) => decide_file(alloc, words, files, out),
-        Job::Compare(words) => compare_file(alloc, words, files, out),
-        Job::Map(words) => map_file(alloc, words, files, out),
+        Job::Compare(words) => compare_rows(alloc, words, files, out, rows),
+        Job::Map(words) => map_rows(alloc, words, files, out, rows),
         Job::Rehearse(words) => rehearse_file(alloc, words, files, out),
         Job::Suite(words) => suite_file(alloc, words, files, out),
     }
@@ -274,16 +279,20 @@ pub fn perform_with<'a, S: Serves, F: Files, W: Write>(
     requires can { CanDo S.serves job.now }
     requires shared { S.shares }
     ensures { IfOk result (λ end. Performs F.reads F.writes job.now files.old files.new
-        (W.contents out.old) (W.contents out.new) end.status) }
+        (W.contents out.old) (W.contents out.new) end.rows end.status) }
 {
     let mut full = None;
     let mut lost = 0;
-    match attempt(alloc, server, job, files, out, &mut full, &mut lost) {
+    let mut rows = JobRows::Nothing;
+    match attempt(
+        alloc, server, job, files, out, &mut full, &mut lost, &mut rows,
+    ) {
         Ok(status) => Ok(JobEnd {
             status,
             fault: None,
             full,
             lost,
+            rows,
         }),
         Err(JobStop::Ended(fault)) => {
             writeln!(out, "{fault}")?;
@@ -292,6 +301,7 @@ pub fn perform_with<'a, S: Serves, F: Files, W: Write>(
                 fault: Some(fault),
                 full,
                 lost,
+                rows: JobRows::Nothing,
             })
         }
         Err(JobStop::Unwritten(fault)) => Err(fault),
@@ -316,7 +326,7 @@ pub fn perform<R: Threads + Wait + Sync, F: Files, W: Write>(
     files: &mut F,
     out: &mut W,
 ) -> Result<ExitStatus, WriteFault>
-    ensures { IfOk result (Performs F.reads F.writes job.now files.old files.new
+    ensures { IfOk result (PerformsSome F.reads F.writes job.now files.old files.new
         (W.contents out.old) (W.contents out.new)) }
 {
     let server = Threaded::new(rt);

@@ -57,6 +57,7 @@ pub use job_parts::storage::{Cannot, Files};
 pub use job_parts::usage::UsageFault;
 pub use job_ports::serve::print_report;
 pub use job_rehearse::rehearse::RehearseWords;
+pub use job_rows::JobRows;
 pub use job_show::show::ShowWords;
 pub use job_suite::words::SuiteWords;
 pub use job_texts::asm::AsmWords;

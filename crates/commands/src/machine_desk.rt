@@ -3,6 +3,7 @@
 ghost use Rattle.std.specs.Prelude.{◌≡◌};
 
 use crate::desk::Desk;
+use job_rows::JobRows;
 use crate::losses::{UnreportedTexts, loss_report};
 use crate::noted::FileCause;
 use crate::serving::Threaded;
@@ -163,6 +164,8 @@ impl<'a, R: rt::Files + Input + Print + Eprint + Threads + Wait + Sync> Desk
     fn server(&self) -> Threaded<'a, R> {
         Threaded::new(self.rt)
     }
+
+    fn keep_rows(&mut self, _rows: JobRows) {}
 
     fn report<T: Display + Drop>(&self, reported: Result<T, AllocError>) -> Result<(), AllocError> {
         if let Ok(text) = reported {

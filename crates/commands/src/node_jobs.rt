@@ -6,6 +6,7 @@ ghost use Rattle.clap.specs.Simple.{app_of};
 ghost use Rattle.clap.specs.Walk.{rows_of};
 ghost use Rattle.clap.specs.declared.builder.command.Command.TheViews.{out-Command as fields_of};
 ghost use Rattle.commands.specs.Jobs.{placed};
+ghost use Rattle.job_rows.specs.declared.lib.JobRows.TheVariants.{Nothing};
 ghost use Rattle.commands.specs.OnNodes.{are_left, own_file, with_node_option};
 ghost use Rattle.job_config.specs.Configured.{numbers_in};
 ghost use Rattle.job_parts.specs.Inputs.{AreInputs, input, input_value};
@@ -13,6 +14,7 @@ ghost use Rattle.job_parts.specs.declared.inputs.Content.TheVariants.{Node};
 ghost use Rattle.job_parts.specs.declared.status.ExitStatus.TheVariants.{Failed};
 ghost use Rattle.node_parts.specs.Nodes.{are_within, windows_of};
 
+use job_rows::JobRows;
 use crate::jobs::{Job, JobEnd};
 use clap::{ArgMatches, Command};
 use job_charts::compare::CompareWords;
@@ -51,13 +53,14 @@ pub fn node_inputs(node: &str) -> Inputs<'_>
 impl<'a> JobEnd<'a> {
     /// How a job ends if the file of its node has this fault.
     pub fn refused(fault: Fault<'a>) -> JobEnd<'a>
-        ensures { result ≡ record { status = Failed; fault = Some fault.entry; full = None; lost = 0 } }
+        ensures { result ≡ record { status = Failed; fault = Some fault.entry; full = None; lost = 0; rows = Nothing } }
     {
         JobEnd {
             status: ExitStatus::Failed,
             fault: Some(fault),
             full: None,
             lost: 0,
+            rows: JobRows::Nothing,
         }
     }
 }

@@ -2,9 +2,10 @@
 
 ghost use Rattle.std.specs.Prelude.{◌≡◌, [], IfOk};
 ghost use Rattle.doing.specs.Desks.{input_of};
+ghost use Rattle.job_rows.specs.declared.lib.JobRows.TheVariants.{Nothing};
 
 use crate::error_output::ErrorOutput;
-use commands::{Desk, FileCause, Files, HostLink, HostTalk, Nobody};
+use commands::{Desk, FileCause, Files, HostLink, HostTalk, JobRows, Nobody};
 use folders::Folder;
 use std::alloc::{AllocError, Global};
 use std::fmt::Display;
@@ -17,36 +18,40 @@ const NO_FILE: i32 = 2;
 /// The name of standard input.
 pub const STANDARD_INPUT: &str = "-";
 
-/// A folder, in which the file `-` is standard input, with what standard output has. What is printed beside that is on
-/// a slate. No thread can start, and there is no link. If memory is refused, that ends all.
+/// A folder, in which the file `-` is standard input, with what standard output has, and the rows of which that was
+/// printed. What is printed beside that is on a slate. No thread can start, and there is no link. If memory is refused, that ends all.
 #[derive(Drop)]
 pub struct PageDesk<'a, 'b> {
     folder: Folder<'a>,
     error_output: &'b ErrorOutput,
     alloc: Global,
     out: Vec<u8>,
+    rows: JobRows,
 }
 
 impl<'a, 'b> PageDesk<'a, 'b> {
-    /// The desk over this folder, on which nothing was printed.
+    /// The desk over this folder, on which nothing was printed, and which has no rows.
     pub fn new(folder: Folder<'a>, error_output: &'b ErrorOutput, alloc: Global) -> PageDesk<'a, 'b>
         ensures folder { result.folder ≡ folder.entry }
         ensures silent { result.out.items ≡ [] }
+        ensures bare { result.rows ≡ Nothing }
     {
         PageDesk {
             folder,
             error_output,
             alloc,
             out: Vec::new(alloc),
+            rows: JobRows::Nothing,
         }
     }
 
-    /// The folder, and what was printed.
-    pub fn into_parts(self) -> (Folder<'a>, Vec<u8>)
+    /// The folder, what was printed, and the rows of which it was printed.
+    pub fn into_parts(self) -> (Folder<'a>, Vec<u8>, JobRows)
         ensures folder { result.0 ≡ self.entry.folder }
         ensures printed { result.1 ≡ self.entry.out }
+        ensures rows { result.2 ≡ self.entry.rows }
     {
-        (self.folder, self.out)
+        (self.folder, self.out, self.rows)
     }
 
     /// What standard input has.
@@ -131,6 +136,10 @@ impl<'a, 'b> Desk for PageDesk<'a, 'b> {
 
     fn server(&self) -> Nobody {
         Nobody
+    }
+
+    fn keep_rows(&mut self, rows: JobRows) {
+        self.rows = rows;
     }
 
     fn report<T: Display + Drop>(&self, reported: Result<T, AllocError>) -> Result<(), AllocError> {

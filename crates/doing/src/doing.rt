@@ -7,6 +7,7 @@ ghost use Rattle.doing.specs.Doings.{DoesWords};
 
 use crate::desk::PageDesk;
 use crate::error_output::ErrorOutput;
+use commands::JobRows;
 use folders::Folder;
 use std::alloc::{AllocError, Global};
 
@@ -19,6 +20,8 @@ pub struct Done {
     pub out: Vec<u8>,
     /// What standard error has.
     pub reported: String,
+    /// The rows of which standard output was printed, if there are any.
+    pub rows: JobRows,
 }
 
 /// The same, with the folder as it is after it.
@@ -48,12 +51,13 @@ pub fn do_words<'a>(
     let desk = PageDesk::new(folder, &error_output, alloc);
     let left = commands::do_words(alloc, desk, given, false)?;
     let status = left.end.code();
-    let (folder, out) = left.desk.into_parts();
+    let (folder, out, rows) = left.desk.into_parts();
     let reported = error_output.into_reported();
     let done = Done {
         status,
         out,
         reported,
+        rows,
     };
     Ok(Left { done, folder })
 }

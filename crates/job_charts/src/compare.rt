@@ -8,16 +8,17 @@ ghost use Rattle.clap.specs.Matches.{found_of};
 ghost use Rattle.job_parts.specs.Stops.{StopsBy};
 ghost use Rattle.charts.specs.Same.{AreSame};
 ghost use Rattle.job_charts.specs.CompareJob.{NamesCompare, RefusesCompare, compare_app};
-ghost use Rattle.job_charts.specs.ComparedFile.{AreFileTables, AreSameAt, AreSameAtAll, AreSameFor, AreSameIfCharted, ComparesFile, DifferAt, DifferFor, DifferSomewhere, HaveDifference, HaveDifferenceAt, IsNoNamed, IsNoPair, IsNotCompared, PrintsRows, PrintsTables};
+ghost use Rattle.job_charts.specs.ComparedFile.{AreFileTables, AreSameAt, AreSameAtAll, AreSameFor, AreSameIfCharted, ComparesFile, DifferAt, DifferFor, DifferSomewhere, HaveDifference, HaveDifferenceAt, IsNoNamed, IsNoPair, IsNotCompared, AreTableDifferences, PrintsDifferences, PrintsTables};
 ghost use Rattle.job_parts.specs.Inputs.{AreInputs, input};
 ghost use Rattle.job_parts.specs.declared.inputs.Content.TheVariants.{Table};
 ghost use Rattle.job_decide.specs.Tables.{HoldsDrawn};
 ghost use Rattle.job_parts.specs.declared.faults.Fault.TheVariants.{NoMemory};
 
 use crate::asking::{ChartScope, asking_arguments, asking_of};
+use crate::different_rows::{Difference, differences_of};
 use crate::places::places;
 use crate::{markdown, plain};
-use chart_lines::{AskedRules, ChartRow, PORTS, Tables, difference_rows};
+use chart_lines::{AskedRules, PORTS, Tables, difference_rows};
 use charts::first_difference;
 use clap::{ArgMatches, Command};
 use job_decide::node_windows::own_windows;
@@ -38,7 +39,7 @@ use policy_table::unnamed_ports_are_alike;
 use regions::PointRegion;
 use rmap::Windows;
 use std::alloc::{AllocError, Global};
-use std::io::{self, Write};
+use std::io::Write;
 
 /// The words of the job `compare`.
 #[derive(Debug, Drop)]
@@ -122,6 +123,16 @@ pub fn compare_job(alloc: Global, found: &ArgMatches) -> Result<CompareWords, Us
         windows: own_windows(),
         asking,
     })
+}
+
+/// How `compare` ends.
+#[derive(Debug, Drop)]
+pub struct CompareEnd {
+    /// The exit status.
+    pub status: ExitStatus,
+    /// The differences that were printed, none of which is left out: none if `same` was printed. They are not there if a
+    /// fault of a table was printed.
+    pub differences: Option<Vec<Difference>>,
 }
 
 /// Why there are no two tables.
@@ -248,78 +259,110 @@ fn differ(
     }
 }
 
-/// The lines of the rows of a comparison, with packets for a node with these windows.
-fn plain_text(alloc: Global, windows: &Windows, rows: &[ChartRow]) -> Result<String, AllocError> {
+/// The lines of differences.
+fn plain_text(alloc: Global, differences: &[Difference]) -> Result<String, AllocError> {
     let mut text = String::new(alloc);
-    for row in rows {
-        plain::add_difference(&mut text, alloc, windows, row)?;
+    for own in differences {
+        plain::add_difference(&mut text, alloc, own)?;
     }
     Ok(text)
 }
 
-/// A table of these rows in markdown.
-fn markdown_text(
-    alloc: Global,
-    windows: &Windows,
-    rows: &[ChartRow],
-) -> Result<String, AllocError> {
+/// A table of differences in markdown.
+fn markdown_text(alloc: Global, differences: &[Difference]) -> Result<String, AllocError> {
     let mut text = String::from_str(alloc, markdown::COMPARISON_HEAD)?;
-    for row in rows {
-        markdown::add_difference(&mut text, alloc, windows, row)?;
+    for own in differences {
+        markdown::add_difference(&mut text, alloc, own)?;
     }
     Ok(text)
 }
 
-/// Prints the rows of a comparison of two tables.
-fn print_rows<'a, W: Write>(
+/// The text of differences, as the words want it.
+fn text_of_differences(
+    alloc: Global,
+    words: &CompareWords,
+    differences: &[Difference],
+) -> Result<String, AllocError> {
+    if words.markdown {
+        markdown_text(alloc, differences)
+    } else {
+        plain_text(alloc, differences)
+    }
+}
+
+/// Where two tables decide differently, of the commands that are asked of, with a packet for each difference.
+fn rows_of_tables(
+    alloc: Global,
+    words: &CompareWords,
+    asked: &PointRegion,
+    old: &Policy,
+    new: &Policy,
+) -> Result<Vec<Difference>, AllocError>
+    ensures { IfOk result (λ found. AreTableDifferences asked.now words.now.asking.port words.now.windows old.now new.now found.items) }
+{
+    let places = places(alloc, &words.windows)?;
+    let rows = difference_rows(
+        alloc,
+        asked,
+        words.asking.port,
+        old,
+        new,
+        places.as_slice(),
+    )?;
+    differences_of(alloc, &words.windows, rows)
+}
+
+/// Prints where two tables decide differently, and gives it.
+fn print_differences<'a, W: Write>(
     alloc: Global,
     words: &CompareWords,
     asked: &PointRegion,
     old: &Policy,
     new: &Policy,
     out: &mut W,
-) -> Result<(), JobStop<'a>>
-    ensures done { OnOk result
-        (PrintsRows asked.now words.now.asking.port old.now new.now (W.contents out.old) (W.contents out.new)) }
+) -> Result<Vec<Difference>, JobStop<'a>>
+    ensures done { IfOk result (λ found. PrintsDifferences asked.now words.now.asking.port words.now.windows old.now new.now
+        found.items (W.contents out.old) (W.contents out.new)) }
     ensures stops { IfErr result (StopsBy (λ fault. fault ≡ NoMemory)) }
     ensures quiet { IfErr result (StopsBy (λ _. W.contents out.new ≡ W.contents out.old)) }
 {
-    let places = places(alloc, &words.windows)?;
-    let rows = difference_rows(alloc, asked, words.asking.port, old, new, places.as_slice())?;
-    let text = if words.markdown {
-        markdown_text(alloc, &words.windows, rows.as_slice())?
-    } else {
-        plain_text(alloc, &words.windows, rows.as_slice())?
-    };
+    let found = rows_of_tables(alloc, words, asked, old, new)?;
+    let text = text_of_differences(alloc, words, found.as_slice())?;
     print_text(out, text.as_str())?;
-    Ok(())
+    Ok(found)
 }
 
-/// Prints that two tables are the same, or where they differ.
+/// Prints that two tables are the same, or where they differ, and gives that.
 fn print_comparison<'a, W: Write>(
     alloc: Global,
     words: &CompareWords,
     old: &Policy,
     new: &Policy,
     out: &mut W,
-) -> Result<ExitStatus, JobStop<'a>>
-    ensures done { IfOk result
-        (PrintsTables words.now.asking old.now new.now (W.contents out.old) (W.contents out.new)) }
+) -> Result<CompareEnd, JobStop<'a>>
+    ensures done { IfOk result (λ end. PrintsTables words.now old.now new.now
+        (W.contents out.old) (W.contents out.new) end.differences end.status) }
     ensures stops { IfErr result (StopsBy (λ fault. fault ≡ NoMemory)) }
     ensures quiet { IfErr result (StopsBy (λ _. W.contents out.new ≡ W.contents out.old)) }
 {
     let asked = words.asking.region();
     if !differ(alloc, &asked, words.asking.port, old, new)? {
         writeln!(out, "same")?;
-        return Ok(ExitStatus::Done);
+        return Ok(CompareEnd {
+            status: ExitStatus::Done,
+            differences: Some(Vec::new(alloc)),
+        });
     }
-    print_rows(alloc, words, &asked, old, new, out)?;
-    Ok(ExitStatus::Failed)
+    let found = print_differences(alloc, words, &asked, old, new, out)?;
+    Ok(CompareEnd {
+        status: ExitStatus::Failed,
+        differences: Some(found),
+    })
 }
 
 /// Prints `same` if the tables of two files decide all commands alike at each port, and else where they differ. With
 /// `--markdown` it prints that as a table in markdown. If a line of a table has a fault, it prints that with the file's
-/// name and the place, and the job failed.
+/// name and the place, and the job failed. It gives the differences that it printed.
 ///
 /// Faults are found in this order: the old table's file, that table, the new table's file, and that table. The fault of
 /// a file is `CannotRead`, also if it is not UTF-8.
@@ -332,9 +375,9 @@ pub fn compare_file<'a, F: Files, W: Write>(
     words: &'a CompareWords,
     files: &mut F,
     out: &mut W,
-) -> Result<ExitStatus, JobStop<'a>>
-    ensures done { IfOk result (ComparesFile F.reads words.now files.old files.new
-        (W.contents out.old) (W.contents out.new)) }
+) -> Result<CompareEnd, JobStop<'a>>
+    ensures done { IfOk result (λ end. ComparesFile F.reads words.now files.old files.new
+        (W.contents out.old) (W.contents out.new) end.differences end.status) }
     ensures stops { IfErr result (StopsBy (IsNotCompared F.reads words.now files.old files.new)) }
     ensures quiet { IfErr result (StopsBy (λ _. W.contents out.new ≡ W.contents out.old)) }
 {
@@ -343,7 +386,10 @@ pub fn compare_file<'a, F: Files, W: Write>(
         Err(NoPair::Ended(fault)) => Err(JobStop::Ended(fault)),
         Err(NoPair::BadTable(name, fault)) => {
             print_named_fault(out, name, &fault)?;
-            Ok(ExitStatus::Failed)
+            Ok(CompareEnd {
+                status: ExitStatus::Failed,
+                differences: None,
+            })
         }
     }
 }

@@ -3,11 +3,12 @@
 
 pub mod asking;
 pub mod compare;
+pub mod different_rows;
 pub mod map;
 mod markdown;
 pub mod missed;
 mod notes;
-mod packets;
+pub mod packets;
 mod places;
 mod plain;
 mod words;

@@ -10,7 +10,7 @@ ghost use Rattle.job_parts.specs.declared.inputs.Content.TheVariants.{Table};
 ghost use Rattle.job_parts.specs.Stops.{StopsBy};
 ghost use Rattle.job_charts.specs.ChartScope.{is_all};
 ghost use Rattle.job_charts.specs.MapJob.{GivesLines, IsLineCount, NamesMap, RefusesMap, map_app};
-ghost use Rattle.job_charts.specs.MappedFile.{IsNotMapped, MapsFile, NotesFor, PrintsMap, fits, map_status};
+ghost use Rattle.job_charts.specs.MappedFile.{IsMapOf, IsNotMapped, MapsFile, NotesFor, PrintsMap, ended, fits, map_status};
 ghost use Rattle.job_packets.specs.HexWords.{Has};
 ghost use Rattle.job_parts.specs.Options.{IsBadValue, WritesSuch};
 ghost use Rattle.job_parts.specs.declared.faults.Fault.TheVariants.{NoMemory};
@@ -149,13 +149,33 @@ pub fn map_job(alloc: Global, found: &ArgMatches) -> Result<MapWords, UsageFault
     })
 }
 
+/// What a map has, of which all is printed.
+#[derive(Debug, Drop)]
+pub struct MapRows {
+    /// Its rows, at most as many as lines are to be printed.
+    pub rows: Vec<ChartRow>,
+    /// The rules that match at no port, at most as many as lines are left.
+    pub never: Vec<Note>,
+    /// Whether these are all rows, and all of those rules.
+    pub is_whole: bool,
+}
+
+/// How `map` ends.
+#[derive(Debug, Drop)]
+pub struct MapEnd {
+    /// The exit status.
+    pub status: ExitStatus,
+    /// The map that was printed. There is none if a fault of the table was printed.
+    pub chart: Option<MapRows>,
+}
+
 /// The lines of a map: those of its rows, and after them one for each rule that never matches.
-fn plain_text(alloc: Global, rows: &[ChartRow], never: &[Note]) -> Result<String, AllocError> {
+fn plain_text(alloc: Global, chart: &MapRows) -> Result<String, AllocError> {
     let mut text = String::new(alloc);
-    for row in rows {
+    for row in &chart.rows {
         plain::add_map_row(&mut text, alloc, row)?;
     }
-    for note in never {
+    for note in &chart.never {
         notes::add_note(&mut text, note)?;
     }
     Ok(text)
@@ -163,32 +183,31 @@ fn plain_text(alloc: Global, rows: &[ChartRow], never: &[Note]) -> Result<String
 
 /// A map in markdown: a table of its rows, with the comments of the lines of the text that writes the table. After it
 /// comes a paragraph for each rule that never matches.
-fn markdown_text(
-    alloc: Global,
-    written: &str,
-    rows: &[ChartRow],
-    never: &[Note],
-) -> Result<String, AllocError> {
+fn markdown_text(alloc: Global, written: &str, chart: &MapRows) -> Result<String, AllocError> {
     let comments = markdown::comments_of(alloc, written)?;
     let mut text = String::from_str(alloc, markdown::MAP_HEAD)?;
-    for row in rows {
+    for row in &chart.rows {
         markdown::add_map_row(&mut text, alloc, comments.as_slice(), row)?;
     }
-    for note in never {
+    for note in &chart.never {
         text.push_str("\n")?;
         notes::add_note(&mut text, note)?;
     }
     Ok(text)
 }
 
-/// The first of some items, at most `most`.
-fn first<T>(items: &[T], most: usize) -> &[T]
-    ensures { result.now ≡ take most items.now }
-{
-    if items.len() <= most {
-        return items;
+/// The text of a map for a table that this text writes, as the words want it.
+fn text_of_map(
+    alloc: Global,
+    words: &MapWords,
+    written: &str,
+    chart: &MapRows,
+) -> Result<String, AllocError> {
+    if words.markdown {
+        markdown_text(alloc, written, chart)
+    } else {
+        plain_text(alloc, chart)
     }
-    &items[..most]
 }
 
 /// The rules that never match, if they are wanted.
@@ -220,33 +239,53 @@ fn map_status(is_whole: bool) -> ExitStatus
     }
 }
 
-/// Prints what a table decides that this text writes: at most as many lines as the words say.
+/// What a table decides of the commands that the words ask of: at most as many rows and rules that never match as the
+/// words say.
+fn rows_of_map(alloc: Global, words: &MapWords, policy: &Policy) -> Result<MapRows, AllocError>
+    ensures { IfOk result (IsMapOf words.now.asking words.now.lines policy.now) }
+{
+    let most = words.lines as usize;
+    let mut rows = map_rows(alloc, &words.asking.region(), words.asking.port, policy)?;
+    let count = rows.len();
+    let are_wanted = words.asking.is_all() && count <= most;
+    let mut never = notes_of(alloc, are_wanted, policy)?;
+    let is_whole = fits(count, never.len(), most);
+    rows.truncate(most);
+    never.truncate(most.saturating_sub(rows.len()));
+    Ok(MapRows {
+        rows,
+        never,
+        is_whole,
+    })
+}
+
+/// Prints what a table decides that this text writes, and gives it.
 fn print_map<'a, W: Write>(
     alloc: Global,
     words: &MapWords,
     written: &str,
     policy: &Policy,
     out: &mut W,
-) -> Result<ExitStatus, JobStop<'a>>
+) -> Result<MapRows, JobStop<'a>>
     ensures done { IfOk result (PrintsMap words.now.asking words.now.lines policy.now
         (W.contents out.old) (W.contents out.new)) }
     ensures stops { IfErr result (StopsBy (λ fault. fault ≡ NoMemory)) }
     ensures quiet { IfErr result (StopsBy (λ _. W.contents out.new ≡ W.contents out.old)) }
 {
-    let most = words.lines as usize;
-    let all = map_rows(alloc, &words.asking.region(), words.asking.port, policy)?;
-    let rows = first(all.as_slice(), most);
-    let are_wanted = words.asking.is_all() && all.as_slice().len() <= most;
-    let never = notes_of(alloc, are_wanted, policy)?;
-    let notes = first(never.as_slice(), most.saturating_sub(rows.len()));
-    let text = if words.markdown {
-        markdown_text(alloc, written, rows, notes)?
-    } else {
-        plain_text(alloc, rows, notes)?
-    };
+    let chart = rows_of_map(alloc, words, policy)?;
+    let text = text_of_map(alloc, words, written, &chart)?;
     print_text(out, text.as_str())?;
-    let is_whole = fits(all.as_slice().len(), never.as_slice().len(), most);
-    Ok(map_status(is_whole))
+    Ok(chart)
+}
+
+/// How `map` ends if it printed this map.
+fn ended(chart: MapRows) -> MapEnd
+    ensures { result ≡ ended chart }
+{
+    MapEnd {
+        status: map_status(chart.is_whole),
+        chart: Some(chart),
+    }
 }
 
 /// Prints what the table of a file decides. At each port each command lies in only one line, with the rules that the
@@ -255,7 +294,7 @@ fn print_map<'a, W: Write>(
 ///
 /// If the map has more lines than are to be printed at most, it prints the first of them, and the job failed. If a line
 /// of the table has a fault, it prints that with its place, and the job failed. A table that is too long for a program
-/// is drawn.
+/// is drawn. It gives the rows and rules that it printed.
 ///
 /// Faults are found in this order: the file (`CannotRead`, also if it is not UTF-8), and the table.
 ///
@@ -267,18 +306,24 @@ pub fn map_file<'a, F: Files, W: Write>(
     words: &'a MapWords,
     files: &mut F,
     out: &mut W,
-) -> Result<ExitStatus, JobStop<'a>>
-    ensures done { IfOk result (MapsFile F.reads words.now files.old files.new
-        (W.contents out.old) (W.contents out.new)) }
+) -> Result<MapEnd, JobStop<'a>>
+    ensures done { IfOk result (λ end. MapsFile F.reads words.now files.old files.new
+        (W.contents out.old) (W.contents out.new) end.chart end.status) }
     ensures stops { IfErr result (StopsBy (IsNotMapped F.reads words.now files.old files.new)) }
     ensures quiet { IfErr result (StopsBy (λ _. W.contents out.new ≡ W.contents out.old)) }
 {
     match text_and_table(alloc, files, words.table.as_str(), &words.sizes) {
-        Ok((written, policy)) => print_map(alloc, words, written.as_str(), &policy, out),
+        Ok((written, policy)) => {
+            let chart = print_map(alloc, words, written.as_str(), &policy, out)?;
+            Ok(ended(chart))
+        }
         Err(NoTable::Ended(fault)) => Err(JobStop::Ended(fault)),
         Err(NoTable::BadTable(fault)) => {
             print_table_fault(out, &fault)?;
-            Ok(ExitStatus::Failed)
+            Ok(MapEnd {
+                status: ExitStatus::Failed,
+                chart: None,
+            })
         }
     }
 }

@@ -1,11 +1,10 @@
 //! Rows as those of a table in markdown (GitHub Flavored Markdown, 4.10, Tables).
 
-use crate::packets::add_packet;
-use crate::plain::sign_word;
+use crate::different_rows::Difference;
+use crate::plain::{add_packet, sign_word};
 use crate::words::{add_ports, add_words};
 use chart_lines::ChartRow;
 use differences::AskedRule;
-use rmap::Windows;
 use spw::lines_of;
 use std::alloc::{AllocError, Global};
 
@@ -167,7 +166,7 @@ pub fn add_map_row(
     text.push_str(" |\n")
 }
 
-/// Adds a row of a comparison, with its packet for a node with these windows.
+/// Adds the row of a difference, with its packet.
 ///
 /// # Errors
 ///
@@ -175,19 +174,15 @@ pub fn add_map_row(
 pub fn add_difference(
     text: &mut String,
     alloc: Global,
-    windows: &Windows,
-    row: &ChartRow,
+    own: &Difference,
 ) -> Result<(), AllocError> {
-    let Some(change) = row.reported().change() else {
-        return Ok(());
-    };
     text.push_str("| ")?;
-    text.push_str(sign_word(change.sign))?;
+    text.push_str(sign_word(own.change.sign))?;
     text.push_str(" | ")?;
-    add_front(text, alloc, row)?;
-    add_asks(text, row.reported().decision_path())?;
-    add_asks(text, row.reported().new_path())?;
+    add_front(text, alloc, &own.row)?;
+    add_asks(text, own.row.reported().decision_path())?;
+    add_asks(text, own.row.reported().new_path())?;
     text.push_str(" | ")?;
-    add_packet(text, alloc, windows, row.ports(), &change)?;
+    add_packet(text, alloc, own)?;
     text.push_str(" |\n")
 }

@@ -6,13 +6,11 @@ ghost use Rattle.initiator.specs.Writing.{AreFields, command_with};
 ghost use Rattle.regions.specs.Points.{HasCommand};
 ghost use Rattle.rmap.specs.Command.{bytes_of, command_of, discard_of};
 ghost use Rattle.rmap.specs.Checks.{header_check};
-ghost use Rattle.job_charts.specs.Packets.{PacketsHavePoints, body_for, command_at, data_count_at, fields_at, is_brought, packet_at};
+ghost use Rattle.job_charts.specs.Packets.{IsRowPacket, PacketsHavePoints, body_for, command_at, data_count_at, fate_of, fields_at, packet_at};
 
-use chart_lines::RowChange;
-use differences::Repeats;
 use initiator::{CommandFields, body_with_crc, write_command};
 use regions::Point;
-use rmap::{Command, Instruction, Kind, Windows, header_check};
+use rmap::{Command, Instruction, Kind, Status, Windows, header_check};
 use spw::{End, Packet};
 use std::alloc::{AllocError, Global};
 
@@ -109,50 +107,51 @@ fn packet_at(alloc: Global, target: u8, point: &Point) -> Result<Packet, AllocEr
     }
 }
 
-/// Whether a node with these windows brings a packet to its table: whether it is a command that no check of its header answers.
-fn is_brought(windows: &Windows, packet: &Packet) -> bool
-    ensures { result ≡ is_brought windows.now packet.now }
+/// What a node does with a packet, before its table may decide.
+#[derive(Clone, Copy, Debug, PartialEq, Eq)]
+pub enum PacketFate {
+    /// It brings the packet to its table.
+    Decided,
+    /// A check of the header answers the packet, with this status.
+    Answered(Status),
+    /// It discards the packet.
+    Discarded,
+}
+
+/// A packet, and what a node does with it.
+#[derive(Debug, Drop)]
+pub struct RowPacket {
+    /// The packet.
+    pub packet: Packet,
+    /// What the node does with it.
+    pub fate: PacketFate,
+}
+
+/// What a node with these windows does with a packet: it is a command that no check of its header answers, or not.
+fn fate_of(windows: &Windows, packet: &Packet) -> PacketFate
+    ensures { result ≡ fate_of windows.now packet.now }
 {
     match Command::view(packet) {
-        Ok(command) => header_check(&command, windows).is_ok(),
-        Err(_) => false,
+        Ok(command) => match header_check(&command, windows) {
+            Ok(_place) => PacketFate::Decided,
+            Err(fault) => PacketFate::Answered(fault.status()),
+        },
+        Err(_discard) => PacketFate::Discarded,
     }
 }
 
-/// Adds how often the packet must come: nothing for once.
-fn add_repeats(text: &mut String, repeats: Repeats) -> Result<(), AllocError> {
-    match repeats {
-        Repeats::Times(1) => Ok(()),
-        Repeats::Times(times) => write!(text, " times {times}"),
-        Repeats::Draws => text.push_str(" draws"),
-    }
-}
-
-/// Adds the line of the packet of a row of these ports, for a node with these windows. The line has the first of the
-/// ports, whether that node brings the packet to its table there, and how often the packet must come.
+/// The packet of a point for a node with these windows, and what that node does with it.
 ///
 /// # Errors
 ///
 /// An error if memory is refused.
-pub fn add_packet(
-    text: &mut String,
-    alloc: Global,
-    windows: &Windows,
-    ports: &[u8],
-    change: &RowChange,
-) -> Result<(), AllocError>
-    requires { HasCommand change.now.point }
+pub fn row_packet(alloc: Global, windows: &Windows, point: &Point) -> Result<RowPacket, AllocError>
+    requires { HasCommand point.now }
+    ensures { IfOk result (IsRowPacket windows.now point.now) }
 {
-    let packet = packet_at(alloc, windows.node_address(), &change.point)?;
-    let digits = hex::encode_upper(alloc, packet.bytes())?;
-    if let Some(port) = ports.first() {
-        write!(text, "{port}")?;
-    }
-    write!(text, " {digits} EOP")?;
-    if !is_brought(windows, &packet) {
-        text.push_str(" unasked")?;
-    }
-    add_repeats(text, change.repeats)
+    let packet = packet_at(alloc, windows.node_address(), point)?;
+    let fate = fate_of(windows, &packet);
+    Ok(RowPacket { packet, fate })
 }
 
 /// A law and no work: the packet of a point is a command that has this point.

@@ -1,10 +1,11 @@
 //! Rows as lines.
 
-use crate::packets::add_packet;
+use crate::different_rows::Difference;
+use crate::packets::PacketFate;
 use crate::words::{add_ports, add_words};
 use chart_lines::{ChartRow, PORTS};
-use differences::{AskedRule, Sign};
-use rmap::Windows;
+use differences::{AskedRule, Repeats, Sign};
+use spw::End;
 use std::alloc::{AllocError, Global};
 
 /// The word for a sign.
@@ -55,7 +56,45 @@ pub fn add_map_row(text: &mut String, alloc: Global, row: &ChartRow) -> Result<(
     text.push_str("\n")
 }
 
-/// Adds the four lines of a row of a comparison, with its packet for a node with these windows.
+/// Adds how often the packet must come: nothing for once.
+fn add_repeats(text: &mut String, repeats: Repeats) -> Result<(), AllocError> {
+    match repeats {
+        Repeats::Times(1) => Ok(()),
+        Repeats::Times(times) => write!(text, " times {times}"),
+        Repeats::Draws => text.push_str(" draws"),
+    }
+}
+
+/// The word for the end of a packet.
+fn end_word(end: End) -> &'static str {
+    match end {
+        End::Eop => " EOP",
+        End::Eep => " EEP",
+    }
+}
+
+/// Adds the line of the packet of a difference. The line has the first of the ports, whether the node brings the packet
+/// to its table there, and how often the packet must come.
+///
+/// # Errors
+///
+/// An error if memory is refused.
+pub fn add_packet(text: &mut String, alloc: Global, own: &Difference) -> Result<(), AllocError> {
+    let packet = &own.packet.packet;
+    let digits = hex::encode_upper(alloc, packet.bytes())?;
+    if let Some(port) = own.row.ports().first() {
+        write!(text, "{port}")?;
+    }
+    write!(text, " {digits}")?;
+    text.push_str(end_word(packet.end()))?;
+    match own.packet.fate {
+        PacketFate::Decided => {}
+        PacketFate::Answered(_) | PacketFate::Discarded => text.push_str(" unasked")?,
+    }
+    add_repeats(text, own.change.repeats)
+}
+
+/// Adds the four lines of a difference.
 ///
 /// # Errors
 ///
@@ -63,20 +102,16 @@ pub fn add_map_row(text: &mut String, alloc: Global, row: &ChartRow) -> Result<(
 pub fn add_difference(
     text: &mut String,
     alloc: Global,
-    windows: &Windows,
-    row: &ChartRow,
+    own: &Difference,
 ) -> Result<(), AllocError> {
-    let Some(change) = row.reported().change() else {
-        return Ok(());
-    };
-    text.push_str(sign_word(change.sign))?;
+    text.push_str(sign_word(own.change.sign))?;
     text.push_str(" ")?;
-    add_front(text, alloc, row)?;
+    add_front(text, alloc, &own.row)?;
     text.push_str("\n    old ")?;
-    add_path(text, row.reported().decision_path())?;
+    add_path(text, own.row.reported().decision_path())?;
     text.push_str("\n    new ")?;
-    add_path(text, row.reported().new_path())?;
+    add_path(text, own.row.reported().new_path())?;
     text.push_str("\n    ")?;
-    add_packet(text, alloc, windows, row.ports(), &change)?;
+    add_packet(text, alloc, own)?;
     text.push_str("\n")
 }

@@ -7,6 +7,7 @@ ghost use Rattle.page_format.specs.Given.{IsNotGiven};
 
 use doing::{STANDARD_INPUT, do_words};
 use page_format::{Given, files_since, given_of, reported_of};
+use page_rows::rows_bytes;
 use std::alloc::{AllocError, Global};
 
 /// Memory was refused.
@@ -29,11 +30,13 @@ fn answer(alloc: Global, given: &[u8]) -> Result<Option<Vec<u8>>, AllocError>
     let left = do_words(alloc, words.as_slice(), folder)?;
     let written = files_since(&left.folder, count);
     let done = &left.done;
+    let rows = rows_bytes(alloc, &done.rows)?;
     let bytes = reported_of(
         alloc,
         done.status,
         done.out.as_slice(),
         done.reported.as_bytes(),
+        rows.as_slice(),
         written,
     )?;
     Ok(Some(bytes))
@@ -55,7 +58,7 @@ fn put(room: &mut [u8], bytes: &[u8]) -> u64
 /// Does what the words of a command line ask for over files, both given as bytes. It puts the bytes of what came of it
 /// at the beginning of `told`, if they fit there. Returns how many bytes they are, which are more than 1; 0 if memory
 /// was refused, and 1 if the bytes are no words and files. `page_format` says how words, files and what came of them
-/// are bytes.
+/// are bytes, and `page_rows` how rows are.
 #[unsafe(no_mangle)]
 pub extern "C" fn sandbar_perform(alloc: Global, given: &[u8], reported: &mut [u8]) -> u64
     ensures nothing { result ≤ NO_WORDS → reported.new ≡ reported.old }

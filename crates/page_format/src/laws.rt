@@ -8,7 +8,7 @@ pub fn given_is_read_once()
     ensures { IsGivenOnce }
 {}
 
-/// A law and no work: bytes are at most one status with its output, its reported text and its files.
+/// A law and no work: bytes are at most one status with its output, its reported text, its rows and its files.
 pub fn outcome_is_read_once()
     ensures { IsReadOnce }
 {}

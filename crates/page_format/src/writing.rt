@@ -9,15 +9,23 @@ use folders::{Folder, Sheet};
 use std::alloc::{AllocError, Global};
 
 /// Adds a number.
-fn add_number(bytes: &mut Vec<u8>, number: u32) -> Result<(), AllocError>
+///
+/// # Errors
+///
+/// If memory is refused.
+pub fn add_number(bytes: &mut Vec<u8>, number: u32) -> Result<(), AllocError>
     ensures { OnOk result (bytes.new.items ≡ bytes.old.items ++ number_bytes number) }
 {
     bytes.extend_from_slice(&number.to_le_bytes())
 }
 
 /// Adds a piece, if it is short.
+///
+/// # Errors
+///
+/// If memory is refused, or the piece has 4 GiB or more.
 #[tactic(auto, using(crate::proofs::Written::piece_written))]
-fn add_piece(bytes: &mut Vec<u8>, piece: &[u8]) -> Result<(), AllocError>
+pub fn add_piece(bytes: &mut Vec<u8>, piece: &[u8]) -> Result<(), AllocError>
     ensures short { OnOk result (IsShortPiece piece.now) }
     ensures added { OnOk result (bytes.new.items ≡ bytes.old.items ++ piece_bytes piece.now) }
 {
@@ -42,8 +50,8 @@ fn add_sheets(bytes: &mut Vec<u8>, sheets: &[Sheet]) -> Result<(), AllocError>
     Ok(())
 }
 
-/// The bytes of the results of words: the exit status, what standard output and standard error have, and the written
-/// files, in this order.
+/// The bytes of the results of words: the exit status, what standard output and standard error have, the bytes of the
+/// rows of which output was printed, and the written files, in this order.
 ///
 /// # Errors
 ///
@@ -54,15 +62,17 @@ pub fn reported_of(
     status: u8,
     out: &[u8],
     reported: &[u8],
+    rows: &[u8],
     files: &[Sheet],
 ) -> Result<Vec<u8>, AllocError>
-    ensures { IfOk result (λ bytes. IsOutcomeWritten status out.now reported.now
+    ensures { IfOk result (λ bytes. IsOutcomeWritten status out.now reported.now rows.now
         (sheets_value files.now) bytes.items) }
 {
     let mut bytes = Vec::new(alloc);
     add_number(&mut bytes, u32::from(status))?;
     add_piece(&mut bytes, out)?;
     add_piece(&mut bytes, reported)?;
+    add_piece(&mut bytes, rows)?;
     add_sheets(&mut bytes, files)?;
     Ok(bytes)
 }

@@ -26,23 +26,23 @@
 //! - A stretch: two long numbers, its first address and the address after its last, up to 2^32.
 //! - A step: two numbers, the line of the rule and the verdict; and the option of its quota, which is three numbers:
 //!   map, cell and limit. If the last step has a quota, or if there is none, the verdict is then 10 by no rule.
-//! - A note, of a rule that never matches: the line of the rule; and a number for the reason. 0: its limit is 0. 1: the
-//!   rules that draw before it leave it no ticket; 2: rules before it take its commands. After 1 and 2 comes the list of
-//!   the lines of those rules.
+//! - A note, of a rule that never matches: two numbers, the line of the rule and the reason; and the list of lines of
+//!   other rules, each a number. The reason is 0 if its limit is 0, and the list is empty; 1 if the rules of the list draw
+//!   before it and leave it no ticket; 2 if the rules of the list are before it wherever it agrees.
 //! - A difference: a row; the list of the steps that the new table asks; the sign, a number (0 is `+`, 1 is `-`, 2 is
 //!   `+-`, 3 is `~`); how often the packet must come; and the packet. How often is an option: none if its verdicts are
 //!   the same however often it comes (`draws`), or else two long numbers, and the packet must come the first and 2^64
 //!   times the second.
-//! - A packet: a piece, its bytes; a number, its end (0 is EOP, 1 is EEP); and a number for what the node does with it.
-//!   0: it brings it to its table. 1: a check of its header answers it, with the status that comes next, a number.
-//!   2: the node discards it. Its port is the first of the ports of its row.
+//! - A packet: a piece, its bytes; and three numbers: its end (0 is EOP, 1 is EEP), what the node does with it, and a
+//!   status. What the node does is 0 if it brings the packet to its table, 1 if a check of its header answers it with that
+//!   status, and 2 if it discards it. The status is 0 if it is not 1. Its port is the first of the ports of its row.
 //! - A loader: two numbers, its first and its last port; its initiator and its key; and a number for when its loads
 //!   pass (0: always, 1: until quotas are spent, 2: only after quotas are spent). An initiator or a key is a flag and a
 //!   number: 1 and the value, or 0 and the least value that no rule names, if it is any of these (`*`).
-//! - A decision: a number, its port; a number for who decides; and the list of its printed lines, each a text without its
-//!   line feed. Who decides: 0 is the table, and after it come the verdict, a number, and the option of the line of the
-//!   rule, a number. 1 is a check of the header, and after it comes the status, a number. 2 is nobody: the packet is
-//!   discarded.
+//! - A decision: three numbers, its port, who decides, and the verdict or a status; the option of the line of the rule, a
+//!   number; and the list of its printed lines, each a text without its line feed. Who decides is 0 if it is the table,
+//!   with a verdict; 1 if it is a check of the header, with a status; and 2 if the packet is discarded, with 0. Only a
+//!   table has a line; it has none if no rule decides.
 //!
 //! Words that ended with a fault have no rows: their number is 0. If they have rows, the exit status says the rest: that
 //! of a map which is cut is 1.
