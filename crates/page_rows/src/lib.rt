@@ -47,3 +47,10 @@
 //! Words that ended with a fault have no rows: their number is 0. If they have rows, the exit status says the rest: that
 //! of a map which is cut is 1.
 #![tactic(auto)]
+
+mod charts;
+mod comparisons;
+mod numbers;
+mod rows;
+
+pub use rows::rows_bytes;

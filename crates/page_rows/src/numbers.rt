@@ -1,42 +1,26 @@
-//! Numbers, flags, lists and sets of bytes.
+//! Numbers, flags and sets of bytes.
 
-ghost use Rattle.std.specs.Prelude.{◌≡◌, ◌++◌, ◌<◌, ◌^◌, OnOk, length};
-ghost use Rattle.page_format.specs.Pieces.{number_bytes};
-ghost use Rattle.page_rows.specs.Numbers.{byte_at, count_bytes, flag_bytes, long_bytes, set_bytes, wide_bytes};
+ghost use Rattle.std.specs.Prelude.{◌≡◌, ◌≤◌, ◌++◌, OnOk};
+ghost use Rattle.regions.specs.ByteSets.{has_byte};
+ghost use Rattle.page_rows.specs.Codes.{Adds, flag, long, number, wide};
+ghost use Rattle.page_rows.specs.Sets.{bit_of, byte_at, half_at, set_bytes};
 
-use page_format::add_number;
 use regions::ByteSet;
 use std::alloc::AllocError;
 
 /// How many bytes a set takes.
 const SET_BYTES: u8 = 32;
 
-/// Adds a long number.
-pub(crate) fn add_long(bytes: &mut Vec<u8>, number: u64) -> Result<(), AllocError>
-    ensures { OnOk result (bytes.new.items ≡ bytes.old.items ++ long_bytes number) }
+/// Adds a number.
+pub(crate) fn add_number(bytes: &mut Vec<u8>, number: u32) -> Result<(), AllocError>
+    ensures { OnOk result (Adds number number bytes.old.items bytes.new.items) }
 {
-    bytes.extend_from_slice(&number.to_le_bytes())
+    page_format::add_number(bytes, number)
 }
 
-/// Adds two long numbers: what is below 2^64 of a number, and what is above that.
-pub(crate) fn add_wide(bytes: &mut Vec<u8>, number: u128) -> Result<(), AllocError>
-    ensures { OnOk result (bytes.new.items ≡ bytes.old.items ++ wide_bytes number) }
-{
-    add_long(bytes, (number & u128::from(u64::MAX)) as u64)?;
-    add_long(bytes, (number >> 64) as u64)
-}
-
-/// Adds a flag.
-pub(crate) fn add_flag(bytes: &mut Vec<u8>, flag: bool) -> Result<(), AllocError>
-    ensures { OnOk result (bytes.new.items ≡ bytes.old.items ++ flag_bytes flag) }
-{
-    add_number(bytes, u32::from(flag))
-}
-
-/// Adds a count, or the number of a line, if it is below 2^32.
+/// Adds a count, or the line of a rule, if it is below 2^32.
 pub(crate) fn add_count(bytes: &mut Vec<u8>, count: usize) -> Result<(), AllocError>
-    ensures fits { OnOk result (count < 2 ^ 32) }
-    ensures added { OnOk result (bytes.new.items ≡ bytes.old.items ++ number_bytes count) }
+    ensures { OnOk result (Adds number count bytes.old.items bytes.new.items) }
 {
     let Ok(count) = u32::try_from(count) else {
         return Err(AllocError);
@@ -44,22 +28,55 @@ pub(crate) fn add_count(bytes: &mut Vec<u8>, count: usize) -> Result<(), AllocEr
     add_number(bytes, count)
 }
 
-/// The bit of a byte: whether it is in a set, in this place.
-fn bit_at(set: &ByteSet, byte: u8, place: u8) -> u8
-    requires { place < 8 }
+/// Adds a long number.
+pub(crate) fn add_long(bytes: &mut Vec<u8>, number: u64) -> Result<(), AllocError>
+    ensures { OnOk result (Adds long number bytes.old.items bytes.new.items) }
 {
-    if set.has(byte) { 1 << place } else { 0 }
+    bytes.extend_from_slice(&number.to_le_bytes())
 }
 
-/// Eight bytes from one on, a bit for each that is in a set.
+/// Adds a number below 2^128 as two long numbers: what is below 2^64 of it, and how often it has 2^64.
+pub(crate) fn add_wide(bytes: &mut Vec<u8>, number: u128) -> Result<(), AllocError>
+    ensures { OnOk result (Adds wide number bytes.old.items bytes.new.items) }
+{
+    let (low, high) = (number % (1 << 64), number / (1 << 64));
+    add_long(bytes, low as u64)?;
+    add_long(bytes, high as u64)
+}
+
+/// Adds a flag.
+pub(crate) fn add_flag(bytes: &mut Vec<u8>, flag: bool) -> Result<(), AllocError>
+    ensures { OnOk result (Adds flag flag bytes.old.items bytes.new.items) }
+{
+    add_number(bytes, if flag { 1 } else { 0 })
+}
+
+/// Whether a byte is in a set: 1, or 0.
+fn bit_of(set: &ByteSet, byte: u8) -> u8
+    ensures is { result ≡ bit_of set.now byte }
+    ensures small { result ≤ 1 }
+{
+    if set.has(byte) { 1 } else { 0 }
+}
+
+/// Four bits, of a byte and the next three, the lowest first.
+fn half_at(set: &ByteSet, from: u8) -> u8
+    requires { from ≤ 252 }
+    ensures is { result ≡ half_at set.now from }
+    ensures small { result ≤ 15 }
+{
+    bit_of(set, from)
+        + 2 * bit_of(set, from + 1)
+        + 4 * bit_of(set, from + 2)
+        + 8 * bit_of(set, from + 3)
+}
+
+/// Eight bits, of a byte and the next seven, the lowest first.
 fn byte_at(set: &ByteSet, from: u8) -> u8
+    requires { from ≤ 248 }
     ensures { result ≡ byte_at set.now from }
 {
-    let mut byte = 0;
-    for place in 0..8u8 {
-        byte += bit_at(set, from + place, place);
-    }
-    byte
+    half_at(set, from) + 16 * half_at(set, from + 4)
 }
 
 /// Adds a set of bytes.

@@ -1,0 +1,33 @@
+//! The rows of a job.
+
+use crate::charts::add_map;
+use crate::comparisons::add_differences;
+use crate::numbers::add_number;
+use job_rows::JobRows;
+use std::alloc::{AllocError, Global};
+
+/// Adds the rows of a job.
+fn add_rows(bytes: &mut Vec<u8>, rows: &JobRows) -> Result<(), AllocError> {
+    match rows {
+        JobRows::Nothing => add_number(bytes, 0),
+        JobRows::Map(chart) => {
+            add_number(bytes, 1)?;
+            add_map(bytes, chart)
+        }
+        JobRows::Comparison(differences) => {
+            add_number(bytes, 2)?;
+            add_differences(bytes, differences.as_slice())
+        }
+    }
+}
+
+/// The bytes of the rows of a job.
+///
+/// # Errors
+///
+/// If memory is refused, or a list has 2^32 items or more.
+pub fn rows_bytes(alloc: Global, rows: &JobRows) -> Result<Vec<u8>, AllocError> {
+    let mut bytes = Vec::new(alloc);
+    add_rows(&mut bytes, rows)?;
+    Ok(bytes)
+}
