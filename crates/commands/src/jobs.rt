@@ -7,7 +7,7 @@ ghost use Rattle.job_parts.specs.Arguments.{name_in};
 ghost use Rattle.job_parts.specs.Stops.{StopsBy};
 
 use crate::facts::Facts;
-use job_rows::{JobRows, compare_rows, map_rows};
+use job_rows::{JobRows, compare_rows, decide_rows, map_rows, rehearse_rows};
 use crate::read_names::{ReadNames, lent, order_name, place_name, source_name};
 use crate::serving::{Serves, Threaded};
 use job_charts::compare::CompareWords;
@@ -16,7 +16,7 @@ use job_codes::explain::{ExplainWords, explain};
 use job_codes::why::why_file;
 use job_config::node_lines::NodeLines;
 use job_config::sources::NodeSource;
-use job_decide::decide::{DecideWords, decide_file};
+use job_decide::decide::DecideWords;
 use job_node_file::node_file::{NodeFileWords, print_node_file};
 use job_nodes::full_journals::FullJournals;
 use job_nodes::judge::judge_file;
@@ -29,7 +29,7 @@ use job_parts::options::no_maps;
 use job_parts::status::ExitStatus;
 use job_parts::stops::{JobStop, WriteFault};
 use job_parts::storage::Files;
-use job_rehearse::rehearse::{RehearseWords, rehearse_file};
+use job_rehearse::rehearse::RehearseWords;
 use job_show::show::{ShowWords, show_file};
 use job_suite::suite::suite_file;
 use job_suite::words::SuiteWords;
@@ -256,10 +256,10 @@ fn attempt<'a, S: Serves, F: Files, W: Write>(
         Job::Node(words) => print_node_file(alloc, words, files, out),
         Job::Packet(words) => packet_file(alloc, words, files, out),
         Job::Show(words) => show_file(alloc, words.lines.as_str(), files, out),
-        Job::Decide(words) => decide_file(alloc, words, files, out),
+        Job::Decide(words) => decide_rows(alloc, words, files, out, rows),
         Job::Compare(words) => compare_rows(alloc, words, files, out, rows),
         Job::Map(words) => map_rows(alloc, words, files, out, rows),
-        Job::Rehearse(words) => rehearse_file(alloc, words, files, out),
+        Job::Rehearse(words) => rehearse_rows(alloc, words, files, out, rows),
         Job::Suite(words) => suite_file(alloc, words, files, out),
     }
 }

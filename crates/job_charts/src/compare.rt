@@ -340,8 +340,8 @@ fn print_comparison<'a, W: Write>(
     new: &Policy,
     out: &mut W,
 ) -> Result<CompareEnd, JobStop<'a>>
-    ensures done { IfOk result (λ end. PrintsTables words.now old.now new.now
-        (W.contents out.old) (W.contents out.new) end.differences end.status) }
+    ensures done { IfOk result
+        (PrintsTables words.now old.now new.now (W.contents out.old) (W.contents out.new)) }
     ensures stops { IfErr result (StopsBy (λ fault. fault ≡ NoMemory)) }
     ensures quiet { IfErr result (StopsBy (λ _. W.contents out.new ≡ W.contents out.old)) }
 {
@@ -376,8 +376,8 @@ pub fn compare_file<'a, F: Files, W: Write>(
     files: &mut F,
     out: &mut W,
 ) -> Result<CompareEnd, JobStop<'a>>
-    ensures done { IfOk result (λ end. ComparesFile F.reads words.now files.old files.new
-        (W.contents out.old) (W.contents out.new) end.differences end.status) }
+    ensures done { IfOk result (ComparesFile F.reads words.now files.old files.new
+        (W.contents out.old) (W.contents out.new)) }
     ensures stops { IfErr result (StopsBy (IsNotCompared F.reads words.now files.old files.new)) }
     ensures quiet { IfErr result (StopsBy (λ _. W.contents out.new ≡ W.contents out.old)) }
 {

@@ -307,8 +307,8 @@ pub fn map_file<'a, F: Files, W: Write>(
     files: &mut F,
     out: &mut W,
 ) -> Result<MapEnd, JobStop<'a>>
-    ensures done { IfOk result (λ end. MapsFile F.reads words.now files.old files.new
-        (W.contents out.old) (W.contents out.new) end.chart end.status) }
+    ensures done { IfOk result (MapsFile F.reads words.now files.old files.new
+        (W.contents out.old) (W.contents out.new)) }
     ensures stops { IfErr result (StopsBy (IsNotMapped F.reads words.now files.old files.new)) }
     ensures quiet { IfErr result (StopsBy (λ _. W.contents out.new ≡ W.contents out.old)) }
 {

@@ -14,7 +14,7 @@
 //! | 0 | any that has no rows, also if a fault was printed | nothing |
 //! | 1 | `map` | the list of its rows, the list of its notes, and a flag: whether these are all |
 //! | 2 | `compare` | the list of its differences, which is empty if it printed `same` |
-//! | 3 | `rehearse --any` | the list of its loaders, which is empty if nobody loads |
+//! | 3 | `rehearse --any` | a number, the size of the image, and the list of its loaders, which is empty if nobody loads |
 //! | 4 | `decide` | the list of its decisions |
 //!
 //! Each of these is in the order in which it is printed, and one after another has these parts:
@@ -39,10 +39,10 @@
 //! - A loader: two numbers, its first and its last port; its initiator and its key; and a number for when its loads
 //!   pass (0: always, 1: until quotas are spent, 2: only after quotas are spent). An initiator or a key is a flag and a
 //!   number: 1 and the value, or 0 and the least value that no rule names, if it is any of these (`*`).
-//! - A decision: three numbers, its port, who decides, and the verdict or a status; the option of the line of the rule, a
-//!   number; and the list of its printed lines, each a text without its line feed. Who decides is 0 if it is the table,
-//!   with a verdict; 1 if it is a check of the header, with a status; and 2 if the packet is discarded, with 0. Only a
-//!   table has a line; it has none if no rule decides.
+//! - A decision: three numbers, its port, who decides, and a verdict, a status or a reason; the option of the line of the
+//!   rule, a number; and two texts, its first printed line, and the printed lines below that, each with its line feed.
+//!   Who decides is 0 if it is the table, with a verdict; 1 if it is a check of the header, with a status; and 2 if the
+//!   packet is discarded, with the reason (1 to 4). Only a table has a line; it has none if no rule decides.
 //!
 //! Words that ended with a fault have no rows: their number is 0. If they have rows, the exit status says the rest: that
 //! of a map which is cut is 1.
@@ -50,6 +50,8 @@
 
 mod charts;
 mod comparisons;
+mod decisions;
+mod loaders;
 mod numbers;
 mod rows;
 

@@ -2,6 +2,8 @@
 
 use crate::charts::add_map;
 use crate::comparisons::add_differences;
+use crate::decisions::add_decisions;
+use crate::loaders::add_loaders;
 use crate::numbers::add_number;
 use job_rows::JobRows;
 use std::alloc::{AllocError, Global};
@@ -17,6 +19,14 @@ fn add_rows(bytes: &mut Vec<u8>, rows: &JobRows) -> Result<(), AllocError> {
         JobRows::Comparison(differences) => {
             add_number(bytes, 2)?;
             add_differences(bytes, differences.as_slice())
+        }
+        JobRows::Loaders(loaders) => {
+            add_number(bytes, 3)?;
+            add_loaders(bytes, loaders)
+        }
+        JobRows::Decisions(decisions) => {
+            add_number(bytes, 4)?;
+            add_decisions(bytes, decisions.as_slice())
         }
     }
 }

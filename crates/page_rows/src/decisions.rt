@@ -1,0 +1,61 @@
+//! What a table decides on packets.
+
+use crate::numbers::{add_count, add_flag, add_number};
+use job_decide::decisions::{DecidedBy, PacketDecision};
+use page_format::add_piece;
+use std::alloc::AllocError;
+
+/// The number of who decides, and that of what is decided.
+fn by_numbers(by: DecidedBy) -> (u32, u32)
+    ensures { (result.0, result.1) ≡ by_numbers by }
+{
+    match by {
+        DecidedBy::Table { verdict, .. } => (0, u32::from(verdict.number())),
+        DecidedBy::Header(status) => (1, u32::from(status.code())),
+        DecidedBy::Discarded(discard) => (2, u32::from(discard.code())),
+    }
+}
+
+/// The line of the rule that decides, if one does.
+fn line_of(by: DecidedBy) -> Option<usize>
+    ensures { result ≡ line_of by }
+{
+    match by {
+        DecidedBy::Table { line, .. } => line,
+        DecidedBy::Header(_) | DecidedBy::Discarded(_) => None,
+    }
+}
+
+/// Adds a line of a rule, if there is one.
+fn add_line(bytes: &mut Vec<u8>, line: Option<usize>) -> Result<(), AllocError> {
+    match line {
+        Some(line) => {
+            add_flag(bytes, true)?;
+            add_count(bytes, line)
+        }
+        None => add_flag(bytes, false),
+    }
+}
+
+/// Adds a decision.
+fn add_decision(bytes: &mut Vec<u8>, made: &PacketDecision) -> Result<(), AllocError> {
+    let (who, what) = by_numbers(made.by);
+    add_number(bytes, u32::from(made.port))?;
+    add_number(bytes, who)?;
+    add_number(bytes, what)?;
+    add_line(bytes, line_of(made.by))?;
+    add_piece(bytes, made.line.as_bytes())?;
+    add_piece(bytes, made.why.as_bytes())
+}
+
+/// Adds what is decided.
+pub(crate) fn add_decisions(
+    bytes: &mut Vec<u8>,
+    decisions: &[PacketDecision],
+) -> Result<(), AllocError> {
+    add_count(bytes, decisions.len())?;
+    for made in decisions {
+        add_decision(bytes, made)?;
+    }
+    Ok(())
+}
