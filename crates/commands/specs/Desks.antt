@@ -1,6 +1,7 @@
 -- What a command line is done over.
 use Rattle.std.specs.Prelude.{◌≡◌, ◌⊎◌, ◌++◌, ℕ, Bool, true, false, List, Option, Some, None, codes, option_map}
 use Rattle.job_live.specs.Talking.{ComesLine, Misses, Sends}
+use Rattle.job_rows.specs.declared.lib.JobRows.{JobRows}
 use Rattle.job_parts.specs.Files.{ReadsFile, WritesFile}
 use Rattle.commands.specs.Notes.{GivesPlaced, maps_for, next_content, reads_dump}
 use Rattle.commands.specs.declared.dumps.DumpTalk.{DumpTalk}
@@ -30,6 +31,8 @@ pub record DeskWords (D T L : Type 0) : Type 1 where
   pub links : D → L → Type 0
   -- a link is over
   pub unlinks : D → L → D → Type 0
+  -- the rows of which standard output was printed are taken
+  pub keeps : D → JobRows → D → Type 0
   -- whether output may be lost, and there is an end all the same
   pub can_lose : Bool
 

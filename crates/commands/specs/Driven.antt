@@ -11,6 +11,7 @@ use Rattle.job_frames.specs.FramesJob.{IsFramesUnsent, LivesFrames}
 use Rattle.job_live.specs.LiveJob.{IsUnsent, Lives}
 use Rattle.job_live.specs.Talking.{ComesLine, Misses, Sends}
 use Rattle.job_live.specs.declared.words.LiveWords.{LiveWords}
+use Rattle.job_rows.specs.declared.lib.JobRows.{JobRows}
 use Rattle.job_parts.specs.Printed.{job_fault_line}
 use Rattle.job_parts.specs.Statuses.{exit_code, usage_status}
 use Rattle.job_parts.specs.declared.faults.Fault.{Fault}
@@ -93,7 +94,14 @@ module _ {D T L : Type 0} (desk : DeskWords D T L) where
   abbrev pub Prints : (text : List ℕ) → ExitStatus → (before : D) → End → (after : D) → Type 0
   Prints text status before end after = ((end ≡ Ended status) × WritesText text before after) ⊎ LosesOutput end
 
-  -- a job was done over the files, with what it promises, and standard output is what it printed
+  -- a file may be read again, and then these rows are taken
+  pub record EndsRows (before : D) (rows : JobRows) (after : D) : Type 0 where
+    pub seen : D
+    pub again : LooksAgain desk before seen
+    pub kept : desk.keeps seen rows after
+
+  -- a job was done over the files, with what it promises, and standard output is what it printed. The rows of which it was
+  -- printed were taken after that
   pub record PerformsJob (job : Job) (before : D) (status : ExitStatus) (after : D) : Type 0 where
     pub start : MachineFiles D
     pub stop : MachineFiles D
@@ -104,15 +112,16 @@ module _ {D T L : Type 0} (desk : DeskWords D T L) where
     pub dump : reads_dump start.noted ≡ is_dump job
     pub maps : maps_for start.noted ≡ maps_of_job job
     pub opened : desk.opens before first
-    pub performs : Performs (ToldReads desk) (ToldWrites desk) job start stop first last status
+    pub rows : JobRows
+    pub performs : Performs (ToldReads desk) (ToldWrites desk) job start stop first last rows status
     pub printed : desk.closes stop.desk last closed
-    pub again : LooksAgain desk closed after
+    pub ended : EndsRows closed rows after
 
-  -- a job ends as it ended, if its output was written, and a file may be read again for what is printed. Or output was
-  -- lost
+  -- a job ends as it ended, if its output was written. A file may be read again for what is printed, and its rows are
+  -- taken. Or output was lost
   abbrev pub EndsJob : {V X : Type 0} → Result JobEnd WriteFault → (closed : Result V X) → (before : D) → End → (after : D) → Type 0
   EndsJob done closed before end after =
-      ((own : JobEnd) × (done ≡ Ok own) × IsOk closed × (end ≡ Ended own.status) × LooksAgain desk before after) ⊎ LosesOutput end
+      ((own : JobEnd) × (done ≡ Ok own) × IsOk closed × (end ≡ Ended own.status) × EndsRows before own.rows after) ⊎ LosesOutput end
 
   -- the same, and it ends with that status; or output was lost
   abbrev pub DoesJob : Job → (before : D) → End → (after : D) → Type 0

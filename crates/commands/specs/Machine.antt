@@ -15,5 +15,6 @@ machine_words = record {
   has_link = true;
   links = λ _ _. ⊤;
   unlinks = λ _ _ _. ⊤;
+  keeps = λ _ _ _. ⊤;
   can_lose = true;
 }

@@ -6,6 +6,7 @@ use Rattle.std.specs.declared.io.impls.Cursor.{Cursor}
 use Rattle.std.specs.declared.vec.Vec.{Vec}
 use Rattle.folders.specs.Folders.{FolderReads, FolderValue, FolderWrites, content_of}
 use Rattle.job_frames.specs.declared.host.HostLink.{HostLink}
+use Rattle.job_rows.specs.declared.lib.JobRows.{JobRows}
 use Rattle.job_live.specs.HostLines.{LosesLine, ReadsLine}
 use Rattle.job_live.specs.declared.host.HostTalk.{HostTalk}
 use Rattle.commands.specs.Desks.{DeskWords}
@@ -41,27 +42,35 @@ page_talk = talk_words
     (λ before text after. ⊤)
     (λ before after. LosesLine (left_of before) (left_of after))
 
+-- nothing was printed, and no rows were taken
+abbrev pub IsUnprinted : (before after : PageDesk) → Type 0
+IsUnprinted before after = (after.out ≡ before.out) × (after.rows ≡ before.rows)
+
 -- a read is one of the folder, and prints nothing
 abbrev pub PageReads : (before : PageDesk) → List ℕ → Option (List ℕ) → (after : PageDesk) → Type 0
-PageReads before name given after = FolderReads before.folder name given after.folder × (after.out ≡ before.out)
+PageReads before name given after = FolderReads before.folder name given after.folder × IsUnprinted before after
 
 -- so does a write
 abbrev pub PageWrites : (before : PageDesk) → (name bytes : List ℕ) → Bool → (after : PageDesk) → Type 0
 PageWrites before name bytes is_taken after =
-    FolderWrites before.folder name bytes is_taken after.folder × (after.out ≡ before.out)
+    FolderWrites before.folder name bytes is_taken after.folder × IsUnprinted before after
 
--- what a writer has is what was printed, and no file is another
+-- what a writer has is what was printed, and no file is another, and no rows were taken
 abbrev pub PageCloses : (before : PageDesk) → Option (List ℕ) → (after : PageDesk) → Type 0
-PageCloses before last after = (after.folder ≡ before.folder) × (Some after.out.items ≡ last)
+PageCloses before last after = (after.folder ≡ before.folder) × (after.rows ≡ before.rows) × (Some after.out.items ≡ last)
 
 -- a talk begins over all that standard input has, and nothing was sent
 abbrev pub PageHears : {Z : Type 0} → (before : PageDesk) → PageTalk Z → Type 0
 PageHears before talk =
     ((cursor_inner talk.input).items ≡ input_of before.folder) × (cursor_position talk.input ≡ 0) × (talk.output.items ≡ [])
 
--- what was sent is what was printed, and no file is another
+-- what was sent is what was printed, and no file is another, and no rows were taken
 abbrev pub PageEnds : {Z : Type 0} → (before : PageDesk) → PageTalk Z → (after : PageDesk) → Type 0
-PageEnds before talk after = (after.folder ≡ before.folder) × (after.out.items ≡ talk.output.items)
+PageEnds before talk after = (after.folder ≡ before.folder) × (after.rows ≡ before.rows) × (after.out.items ≡ talk.output.items)
+
+-- rows are kept as they are taken, and no file is another, and nothing more is printed
+abbrev pub PageKeeps : (before : PageDesk) → JobRows → (after : PageDesk) → Type 0
+PageKeeps before rows after = (after.folder ≡ before.folder) × (after.out ≡ before.out) × (after.rows ≡ rows)
 
 -- the files of a folder; two names are of one file if they are the same; no output is lost, and there is no link
 abbrev pub page_words : {Z : Type 0} → DeskWords PageDesk (PageTalk Z) (PageLink Z)
@@ -75,6 +84,7 @@ page_words = record {
   ends = PageEnds;
   has_link = false;
   links = λ before link. ⊥;
-  unlinks = λ before link after. after.folder ≡ before.folder;
+  unlinks = λ before link after. (after.folder ≡ before.folder) × (after.rows ≡ before.rows);
+  keeps = PageKeeps;
   can_lose = false;
 }

@@ -7,6 +7,7 @@ use Rattle.commands.specs.Driven.{LinkWords, end_code, DoesGiven}
 pub use Rattle.commands.specs.Given.{words_given}
 use Rattle.commands.specs.declared.driver.End.{End}
 use Rattle.folders.specs.Folders.{FolderValue}
+use Rattle.job_rows.specs.declared.lib.JobRows.TheVariants.{Nothing}
 use Rattle.doing.specs.Desks.{PageLink, page_talk, page_words}
 use Rattle.doing.specs.declared.desk.PageDesk.{PageDesk}
 use Rattle.doing.specs.declared.doing.Left.{Left}
@@ -24,15 +25,17 @@ no_link = record {
   lost = λ link. false;
 }
 
--- the words were done over a desk with the files of the folder, on which nothing was printed, and no thread can start.
--- What is left is the status, what was printed, and the files
+-- the words were done over a desk with the files of the folder, on which nothing was printed, and which has no rows; and no
+-- thread can start. What is left is the status, what was printed, the rows of which it was printed, and the files
 pub record DoesWords (words : List Text) (before : FolderValue) (left : Left) : Type 0 where
   pub start : PageDesk
   pub stop : PageDesk
   pub end : End
   pub begun : start.folder ≡ before
   pub silent : start.out.items ≡ []
+  pub bare : start.rows ≡ Nothing
   pub does : DoesGiven page_words (Bor ErrorOutput) page_talk false no_link words start end stop
   pub status : left.done.status ≡ end_code end
   pub printed : left.done.out.items ≡ stop.out.items
+  pub rows : left.done.rows ≡ stop.rows
   pub folder : left.folder ≡ stop.folder

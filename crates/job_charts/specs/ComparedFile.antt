@@ -20,11 +20,16 @@ use Rattle.chart_lines.specs.Compared.{AreDifferenceRows}
 use Rattle.chart_lines.specs.Ports.{is_charted, is_named_by}
 use Rattle.chart_lines.specs.Rows.{RowValue}
 use Rattle.regions.specs.declared.regions.PointRegion.{PointRegion}
+use Rattle.rmap.specs.Windows.{WindowsValue}
 use Rattle.job_charts.specs.ChartScope.{IsAskedRegion}
-use Rattle.job_charts.specs.declared.asking.ChartScope.{ChartScope}
+use Rattle.job_charts.specs.DifferentRows.{AreDifferences}
+use Rattle.job_charts.specs.declared.compare.CompareEnd.{CompareEnd}
 use Rattle.job_charts.specs.declared.compare.CompareWords.{CompareWords}
 use Rattle.job_charts.specs.declared.compare.NoPair.{NoPair}
 use Rattle.job_charts.specs.declared.compare.NoPair.TheVariants.{BadTable, Ended}
+use Rattle.job_charts.specs.declared.different_rows.Difference.{Difference}
+use Rattle.std.specs.declared.alloc.Global.{Global}
+use Rattle.std.specs.declared.vec.Vec.{Vec}
 
 -- ---- where tables differ, of the commands of a region
 
@@ -70,32 +75,44 @@ module _ (asked : PointRegion) where
 
 -- ---- what is printed
 
--- these rows of a comparison of two tables were printed
-pub record PrintsRows (asked : PointRegion) (port : Option ℕ) (one other : PolicyValue) (old new : Option (List ℕ)) : Type 0 where
+-- these are the rows of a comparison of two tables, each with its packet for a node with these windows
+pub record AreTableDifferences (asked : PointRegion) (port : Option ℕ) (windows : WindowsValue) (one other : PolicyValue) (found : List Difference) : Type 0 where
   pub rows : List RowValue
   pub are_rows : AreDifferenceRows asked port one other rows
+  pub are : AreDifferences windows rows found
+
+-- such rows, and they were printed
+pub record PrintsDifferences (asked : PointRegion) (port : Option ℕ) (windows : WindowsValue) (one other : PolicyValue) (old new : Option (List ℕ)) (found : List Difference) : Type 0 where
+  pub are : AreTableDifferences asked port windows one other found
   pub text : List ℕ
   pub printed : Appends old new text
 
--- two tables differ in a command that is asked of, and where they do was printed
-pub record PrintsDifferent (asking : ChartScope) (one other : PolicyValue) (old new : Option (List ℕ)) : Type 0 where
-  pub region : PointRegion
-  pub is_asked : IsAskedRegion asking region
-  pub differ : DifferFor region asking.port one other
-  pub reported : PrintsRows region asking.port one other old new
+module _ (words : CompareWords) (one other : PolicyValue) (old new : Option (List ℕ)) where
+  -- two tables differ in a command that is asked of, and where they do was printed: these differences
+  pub record PrintsDifferent (found : List Difference) : Type 0 where
+    pub region : PointRegion
+    pub is_asked : IsAskedRegion words.asking region
+    pub differ : DifferFor region words.asking.port one other
+    pub reported : PrintsDifferences region words.asking.port words.windows one other old new found
 
--- two tables decide all commands alike that are asked of, which was printed
-pub record PrintsSame (asking : ChartScope) (one other : PolicyValue) (old new : Option (List ℕ)) : Type 0 where
-  pub region : PointRegion
-  pub is_asked : IsAskedRegion asking region
-  pub same : AreSameFor region asking.port one other
-  pub line : Appends old new (codes "same" ++ 10 ∷ [])
+  -- two tables decide all commands alike that are asked of, which was printed
+  pub record PrintsSame : Type 0 where
+    pub region : PointRegion
+    pub is_asked : IsAskedRegion words.asking region
+    pub same : AreSameFor region words.asking.port one other
+    pub line : Appends old new (codes "same" ++ 10 ∷ [])
 
--- what is printed of two tables, by the exit status
-abbrev pub PrintsTables : ChartScope → (one other : PolicyValue) → (old new : Option (List ℕ)) → ExitStatus → Type 0
-PrintsTables asking one other old new Done = PrintsSame asking one other old new
-PrintsTables asking one other old new Failed = PrintsDifferent asking one other old new
-PrintsTables asking one other old new Misused = ⊥
+  -- what is printed of two tables, by the exit status
+  abbrev pub PrintsTablesAs : ExitStatus → (found : List Difference) → Type 0
+  PrintsTablesAs Done found = (found ≡ []) × PrintsSame
+  PrintsTablesAs Failed found = PrintsDifferent found
+  PrintsTablesAs Misused found = ⊥
+
+  -- what is printed of two tables, by what is given
+  pub record PrintsTables (end : CompareEnd) : Type 0 where
+    pub found : Vec Difference Global
+    pub gives : end.differences ≡ Some found
+    pub reported : PrintsTablesAs end.status found.items
 
 -- why there is no table in the file of this name: it cannot be read, or the table has a fault. With that fault the
 -- file's name is reported
@@ -145,26 +162,26 @@ module _ {S : Type 0} (reads : ReadsFile S) (words : CompareWords) where
   IsNoPair before after (Ended fault) = AreTablesUnread before after fault
   IsNoPair before after (BadTable name fault) = IsComparedBadTable before after name.now fault
 
-  -- two tables were read, and what is to be said of them was printed
-  pub record ComparesTables (before after : S) (old new : Option (List ℕ)) (status : ExitStatus) : Type 0 where
+  -- two tables were read, and what is to be said of them was printed and given
+  pub record ComparesTables (before after : S) (old new : Option (List ℕ)) (end : CompareEnd) : Type 0 where
     pub one : PolicyValue
     pub other : PolicyValue
     pub tables : AreFileTables before one other after
-    pub reported : PrintsTables words.asking one other old new status
+    pub reported : PrintsTables words one other old new end
 
-  -- a table has a fault, which was printed with the name of its file and its place
-  pub record PrintsBadTable (before after : S) (old new : Option (List ℕ)) (status : ExitStatus) : Type 0 where
+  -- a table has a fault, which was printed with the name of its file and its place; then no differences are given
+  pub record PrintsBadTable (before after : S) (old new : Option (List ℕ)) (end : CompareEnd) : Type 0 where
     pub name : List ℕ
     pub fault : TextFault
     pub bad : IsComparedBadTable before after name fault
     pub reported : PrintsNamedFault name fault old new
-    pub failed : status ≡ Failed
+    pub failed : end.status ≡ Failed
+    pub nothing : end.differences ≡ None
 
-  -- what `compare` reads and prints if no fault ends it, with its exit status. It is 0 if both tables decide all
-  -- commands alike, and 1 if they do not, or if one has a fault
-  abbrev pub ComparesFile : (before after : S) → (old new : Option (List ℕ)) → ExitStatus → Type 0
-  ComparesFile before after old new status =
-      ComparesTables before after old new status ⊎ PrintsBadTable before after old new status
+  -- what `compare` reads and prints if no fault ends it, by what it gives at its end. The exit status is 0 if both tables
+  -- decide all commands alike, and 1 if they do not, or if one has a fault
+  abbrev pub ComparesFile : (before after : S) → (old new : Option (List ℕ)) → CompareEnd → Type 0
+  ComparesFile before after old new end = ComparesTables before after old new end ⊎ PrintsBadTable before after old new end
 
   -- memory was refused after the reads
   pub record LacksChartMemory (before after : S) (fault : Fault) : Type 0 where

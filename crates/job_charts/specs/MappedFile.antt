@@ -1,5 +1,5 @@
 -- The input and output of the job `map`.
-use Rattle.std.specs.Prelude.{◌≡◌, ◌⊎◌, ◌&&◌, ◌-◌, nat_le, if◌then◌else◌, ℕ, Bool, false, true, List, [], Option, length, string_bytes, take}
+use Rattle.std.specs.Prelude.{◌≡◌, ◌⊎◌, ◌&&◌, ◌-◌, nat_le, if◌then◌else◌, ℕ, Bool, false, true, List, [], Option, Some, None, length, string_bytes, take}
 use Rattle.std.specs.Io.KnownBytes.{Appends}
 use Rattle.policy_table.specs.Policies.{PolicyValue}
 use Rattle.policy_table.specs.declared.text_faults.TextFault.{TextFault}
@@ -9,7 +9,7 @@ use Rattle.job_parts.specs.Reading.{TextUnread}
 use Rattle.job_parts.specs.declared.faults.Fault.{Fault}
 use Rattle.job_parts.specs.declared.faults.Fault.TheVariants.{NoMemory}
 use Rattle.job_parts.specs.declared.status.ExitStatus.{ExitStatus}
-use Rattle.job_parts.specs.declared.status.ExitStatus.TheVariants.{Done, Failed, Misused}
+use Rattle.job_parts.specs.declared.status.ExitStatus.TheVariants.{Done, Failed}
 use Rattle.chart_lines.specs.Mapped.{AreMapRows}
 use Rattle.chart_lines.specs.Never.{AreNotes}
 use Rattle.chart_lines.specs.Rows.{RowValue}
@@ -17,6 +17,8 @@ use Rattle.chart_lines.specs.declared.never.Note.{Note}
 use Rattle.regions.specs.declared.regions.PointRegion.{PointRegion}
 use Rattle.job_charts.specs.ChartScope.{IsAskedRegion, is_all}
 use Rattle.job_charts.specs.declared.asking.ChartScope.{ChartScope}
+use Rattle.job_charts.specs.declared.map.MapEnd.{MapEnd}
+use Rattle.job_charts.specs.declared.map.MapRows.{MapRows}
 use Rattle.job_charts.specs.declared.map.MapWords.{MapWords}
 
 -- the rules of a table that never match, if they are wanted, and else none
@@ -32,35 +34,40 @@ fits rows notes most = nat_le rows most && nat_le notes (most - rows)
 abbrev pub map_status : (is_whole : Bool) → ExitStatus
 map_status is_whole = if is_whole then Done else Failed
 
--- what a table decides of the commands that are asked of was printed, at most `most` lines of it. They are the first of
--- the rows of a map of it. If all commands are asked of and there are no more rows, the first of the rules that never
--- match follow
-pub record PrintsMap (asking : ChartScope) (most : ℕ) (policy : PolicyValue) (old new : Option (List ℕ)) (status : ExitStatus) : Type 0 where
+-- a map of what a table decides of the commands that are asked of, at most `most` lines of it. It has the first of the
+-- rows of a map. If all commands are asked of and there are no more rows, it has the first of the rules that never match
+pub record IsMapOf (asking : ChartScope) (most : ℕ) (policy : PolicyValue) (chart : MapRows) : Type 0 where
   pub region : PointRegion
   pub is_asked : IsAskedRegion asking region
   pub rows : List RowValue
   pub are_rows : AreMapRows region asking.port policy rows
-  pub shown : List RowValue
-  pub is_shown : shown ≡ take most rows
+  pub is_shown : chart.rows.items ≡ take most rows
   pub notes : List Note
   pub are_notes : NotesFor (is_all asking && nat_le (length rows) most) policy notes
-  pub shown_notes : List Note
-  pub are_shown : shown_notes ≡ take (most - length shown) notes
+  pub are_shown : chart.never.items ≡ take (most - length chart.rows.items) notes
+  pub is_whole : chart.is_whole ≡ fits (length rows) (length notes) most
+
+-- such a map, and its rows and rules were printed
+pub record PrintsMap (asking : ChartScope) (most : ℕ) (policy : PolicyValue) (old new : Option (List ℕ)) (chart : MapRows) : Type 0 where
+  pub is_map : IsMapOf asking most policy chart
   pub text : List ℕ
   pub printed : Appends old new text
-  pub ends : status ≡ map_status (fits (length rows) (length notes) most)
+
+-- how `map` ends if it printed this map
+abbrev pub ended : MapRows → MapEnd
+ended chart = record { status = map_status chart.is_whole; chart = Some chart }
 
 module _ {S : Type 0} (reads : ReadsFile S) (words : MapWords) where
   -- the file has this text, which is a table whose lines have no fault for these maps
   abbrev pub IsTableGiven : (before : S) → (written : List ℕ) → PolicyValue → (after : S) → Type 0
   IsTableGiven before written policy after = HoldsTableText reads before (string_bytes words.table) words.sizes written policy after
 
-  -- what the table decides was printed
-  pub record MapsTable (before after : S) (old new : Option (List ℕ)) (status : ExitStatus) : Type 0 where
+  -- what the table decides was printed: this map
+  pub record MapsTable (before after : S) (old new : Option (List ℕ)) (chart : MapRows) : Type 0 where
     pub written : List ℕ
     pub policy : PolicyValue
     pub given : IsTableGiven before written policy after
-    pub reported : PrintsMap words.asking words.lines policy old new status
+    pub reported : PrintsMap words.asking words.lines policy old new chart
 
   -- the table has a fault, which was printed with its place
   pub record PrintsMapFault (before after : S) (old new : Option (List ℕ)) : Type 0 where
@@ -68,12 +75,16 @@ module _ {S : Type 0} (reads : ReadsFile S) (words : MapWords) where
     pub held : HoldsBadDrawn reads before (string_bytes words.table) words.sizes fault after
     pub reported : PrintsTableFault fault old new
 
-  -- what `map` reads and prints if no fault ends it, by its exit status. It is 0 if the map was printed to its end. It
-  -- is 1 if the map has more lines than are to be printed at most, or if the table has a fault
-  abbrev pub MapsFile : (before after : S) → (old new : Option (List ℕ)) → ExitStatus → Type 0
-  MapsFile before after old new Done = MapsTable before after old new Done
-  MapsFile before after old new Failed = MapsTable before after old new Failed ⊎ PrintsMapFault before after old new
-  MapsFile before after old new Misused = ⊥
+  -- what `map` reads and prints, and with which status it ends, by the map that it gives. The status is 0 if the map was
+  -- printed to its end, and 1 if it has more lines than are to be printed at most. It is 1, and there is no map, if the
+  -- table has a fault
+  abbrev pub MapsAs : (before after : S) → (old new : Option (List ℕ)) → ExitStatus → (chart : Option MapRows) → Type 0
+  MapsAs before after old new status (Some chart) = (status ≡ map_status chart.is_whole) × MapsTable before after old new chart
+  MapsAs before after old new status None = (status ≡ Failed) × PrintsMapFault before after old new
+
+  -- what `map` reads and prints if no fault ends it, by what it gives at its end
+  abbrev pub MapsFile : (before after : S) → (old new : Option (List ℕ)) → MapEnd → Type 0
+  MapsFile before after old new end = MapsAs before after old new end.status end.chart
 
   -- memory was refused after the read
   pub record LacksChartMemory (before after : S) (fault : Fault) : Type 0 where

@@ -1,11 +1,12 @@
 -- The packet of a point.
-use Rattle.std.specs.Prelude.{◌≡◌, ◌<◌, ◌+◌, ◌-◌, ℕ, Bool, false, List, [], is_none, replicate, Option, Some, None}
+use Rattle.std.specs.Prelude.{◌≡◌, ◌<◌, ◌+◌, ◌-◌, ℕ, List, [], replicate, Option, Some, None}
 use Rattle.machine.specs.Memory.{header}
-use Rattle.rmap.specs.Checks.{header_check}
+use Rattle.rmap.specs.Checks.{header_check, header_status}
 use Rattle.rmap.specs.Command.{CommandValue, IsHeader, bytes_of, command_of, discard_of}
 use Rattle.rmap.specs.Reply.{with_crc}
 use Rattle.rmap.specs.Windows.{WindowsValue}
 use Rattle.rmap.specs.declared.discard.Discard.{Discard}
+use Rattle.rmap.specs.declared.header_faults.HeaderFault.{HeaderFault}
 use Rattle.rmap.specs.declared.kind.Kind.{Kind}
 use Rattle.rmap.specs.declared.kind.Kind.TheVariants.{Read, Rmw, Unused, Write}
 use Rattle.spw.specs.Cargo.{Cargo}
@@ -16,6 +17,9 @@ use Rattle.regions.specs.Points.{HasCommand}
 use Rattle.regions.specs.declared.points.Point.{Point}
 use Rattle.charts.specs.Points.{header_point_of}
 use Rattle.charts.specs.Witness.{instruction_for, length_for}
+use Rattle.job_charts.specs.declared.packets.PacketFate.{PacketFate}
+use Rattle.job_charts.specs.declared.packets.PacketFate.TheVariants.{Answered, Decided, Discarded}
+use Rattle.job_charts.specs.declared.packets.RowPacket.{RowPacket}
 
 -- how many bytes of data the command of a point has: as many as lie from its first address to its last
 abbrev pub data_count_at : Point → ℕ
@@ -51,14 +55,24 @@ command_at target p = command_with (fields_at target p) (body_for p.kind (data_c
 unfoldable pub packet_at : (target : ℕ) → Point → Cargo
 packet_at target p = record { bytes = bytes_of (command_at target p); end = Eop }
 
--- whether a packet that is no command for that reason, or a command, is brought to the table of a node with these windows
-abbrev pub is_brought_by : WindowsValue → Option Discard → Cargo → Bool
-is_brought_by windows (Some discard) p = false
-is_brought_by windows None p = is_none (header_check (command_of p) windows)
+-- what a check of the header answers, or that there is none that does
+abbrev pub fate_in : Option HeaderFault → PacketFate
+fate_in None = Decided
+fate_in (Some fault) = Answered (header_status fault)
 
--- whether such a node brings a packet to its table: it is a command that no check of its header answers
-abbrev pub is_brought : WindowsValue → Cargo → Bool
-is_brought windows p = is_brought_by windows (discard_of p.bytes) p
+-- what a node with these windows does with a packet that is no command for that reason, or a command
+abbrev pub fate_by : WindowsValue → Option Discard → Cargo → PacketFate
+fate_by windows (Some discard) p = Discarded
+fate_by windows None p = fate_in (header_check (command_of p) windows)
+
+-- what such a node does with a packet: it brings it to its table if it is a command that no check of its header answers
+abbrev pub fate_of : WindowsValue → Cargo → PacketFate
+fate_of windows p = fate_by windows (discard_of p.bytes) p
+
+-- the packet of a point for a node with these windows, with what that node does with it
+pub record IsRowPacket (windows : WindowsValue) (p : Point) (own : RowPacket) : Type 0 where
+  pub packet : own.packet ≡ packet_at windows.node_address p
+  pub fate : own.fate ≡ fate_of windows own.packet
 
 -- the packet of a point that a command has is a command, which has this point, for any target
 abbrev pub PacketsHavePoints : Type 0

@@ -100,12 +100,13 @@ given_once bytes words others folder another one two =
     files_cut (reverse folder) (reverse another) (files_short _ one.files_are) (files_short _ two.files_are) cut.1 in
     (cut.0, sym (reverse-reverse folder) ∙ ap (λ (all : FolderValue). reverse all) files ∙ reverse-reverse another)
 
-pub reported_once : (bytes : List ℕ) (status other : ℕ) (out another reported text : List ℕ) (files more : FolderValue)
-    → IsOutcomeWritten status out reported files bytes
-    → IsOutcomeWritten other another text more bytes
-    → (status ≡ other) × (out ≡ another) × (reported ≡ text) × (files ≡ more)
-reported_once bytes status other out another reported text files more one two =
-    let first = number_cut status other (piece_bytes out ++ (piece_bytes reported ++ files_bytes files)) (piece_bytes another ++ (piece_bytes text ++ files_bytes more))
+pub reported_once : (bytes : List ℕ) (status other : ℕ) (out another reported text rows seen : List ℕ) (files more : FolderValue)
+    → IsOutcomeWritten status out reported rows files bytes
+    → IsOutcomeWritten other another text seen more bytes
+    → (status ≡ other) × (out ≡ another) × (reported ≡ text) × (rows ≡ seen) × (files ≡ more)
+reported_once bytes status other out another reported text rows seen files more one two =
+    let first = number_cut status other (piece_bytes out ++ (piece_bytes reported ++ (piece_bytes rows ++ files_bytes files))) (piece_bytes another ++ (piece_bytes text ++ (piece_bytes seen ++ files_bytes more)))
     one.status_fits two.status_fits (sym one.is ∙ two.is) in
-    let cut = file_cut out another reported text (files_bytes files) (files_bytes more) one.out_short two.out_short one.reported_short two.reported_short first.1 in
-    (first.0, cut.0, cut.1, files_cut files more one.files_short two.files_short cut.2)
+    let cut = file_cut out another reported text (piece_bytes rows ++ files_bytes files) (piece_bytes seen ++ files_bytes more) one.out_short two.out_short one.reported_short two.reported_short first.1 in
+    let last = piece_cut rows seen (files_bytes files) (files_bytes more) one.rows_short two.rows_short cut.2 in
+    (first.0, cut.0, cut.1, last.0, files_cut files more one.files_short two.files_short last.1)

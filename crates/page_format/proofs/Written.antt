@@ -43,20 +43,24 @@ all_written old now files left written empty =
     sym (append-nil now) ∙ ap (λ (f : FolderValue). now ++ files_bytes f) (sym empty) ∙ written.is
 
 -- the whole
-pub reported_written : (status : ℕ) (first second third bytes out reported : List ℕ) (files : FolderValue) → status < 2 ^ 32
+pub reported_written : (status : ℕ) (first second third fourth bytes out reported rows : List ℕ) (files : FolderValue) → status < 2 ^ 32
     → first ≡ number_bytes status
     → IsShortPiece out → second ≡ first ++ piece_bytes out
     → IsShortPiece reported → third ≡ second ++ piece_bytes reported
-    → AreShort files → bytes ≡ third ++ files_bytes files
-    → IsOutcomeWritten status out reported files bytes
-reported_written status first second third bytes out reported files fits one short two small three are four = record {
+    → IsShortPiece rows → fourth ≡ third ++ piece_bytes rows
+    → AreShort files → bytes ≡ fourth ++ files_bytes files
+    → IsOutcomeWritten status out reported rows files bytes
+reported_written status first second third fourth bytes out reported rows files fits one short two small three brief four are five = record {
   status_fits = fits;
   out_short = short;
   reported_short = small;
+  rows_short = brief;
   files_short = are;
-  is = four ∙ ap (λ (r : List ℕ). r ++ files_bytes files) (three ∙ ap (λ (r : List ℕ). r ++ piece_bytes reported) (two ∙ ap (λ (r : List ℕ). r ++ piece_bytes out) one))
-      ∙ append_assoc (number_bytes status ++ piece_bytes out) (piece_bytes reported) (files_bytes files)
-      ∙ append_assoc (number_bytes status) (piece_bytes out) (piece_bytes reported ++ files_bytes files);
+  is = five
+      ∙ ap (λ (r : List ℕ). r ++ files_bytes files) (four ∙ ap (λ (r : List ℕ). r ++ piece_bytes rows) (three ∙ ap (λ (r : List ℕ). r ++ piece_bytes reported) (two ∙ ap (λ (r : List ℕ). r ++ piece_bytes out) one)))
+      ∙ append_assoc ((number_bytes status ++ piece_bytes out) ++ piece_bytes reported) (piece_bytes rows) (files_bytes files)
+      ∙ append_assoc (number_bytes status ++ piece_bytes out) (piece_bytes reported) (piece_bytes rows ++ files_bytes files)
+      ∙ append_assoc (number_bytes status) (piece_bytes out) (piece_bytes reported ++ (piece_bytes rows ++ files_bytes files));
 }
 
 -- the first sheets are the first files

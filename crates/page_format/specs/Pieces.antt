@@ -1,5 +1,5 @@
 -- Numbers, words and files as bytes.
-use Rattle.std.specs.Prelude.{◌++◌, ◌<◌, ◌^◌, ℕ, List, [], ◌∷◌, length, map}
+use Rattle.std.specs.Prelude.{◌≡◌, ◌++◌, ◌<◌, ◌^◌, ℕ, List, [], ◌∷◌, length, map}
 use Rattle.std.specs.Borrow.{Bor}
 use Rattle.std.specs.Int.{to_le_bytes, w32}
 use Rattle.std.specs.Str.{IsUtf8}
@@ -50,3 +50,12 @@ AreShort (file ∷ files) = IsShortPiece file.0 × IsShortPiece file.1 × AreSho
 -- the words that references lead to
 abbrev pub words_value : List (Bor (List ℕ)) → List (List ℕ)
 words_value = map (λ word. word.now)
+
+-- bytes begin with at most one number, and with at most one piece
+pub record ArePiecesCut : Type 0 where
+  pub number : (number other : ℕ) (rest more : List ℕ) → number < 2 ^ 32 → other < 2 ^ 32
+      → number_bytes number ++ rest ≡ number_bytes other ++ more
+      → (number ≡ other) × (rest ≡ more)
+  pub piece : (piece other rest more : List ℕ) → IsShortPiece piece → IsShortPiece other
+      → piece_bytes piece ++ rest ≡ piece_bytes other ++ more
+      → (piece ≡ other) × (rest ≡ more)

@@ -7,18 +7,19 @@ use Rattle.page_format.specs.Pieces.{AreShort, IsShortPiece, files_bytes, number
 abbrev pub files_since : (count : ℕ) → FolderValue → FolderValue
 files_since count folder = take (length folder - count) folder
 
--- the bytes are this exit status, this output, this reported text and these files: a number, two pieces, and then to
--- the end the files
-pub record IsOutcomeWritten (status : ℕ) (out reported : List ℕ) (files : FolderValue) (bytes : List ℕ) : Type 0 where
+-- the bytes are this exit status, this output, this reported text, these rows and these files: a number, three pieces,
+-- and then to the end the files
+pub record IsOutcomeWritten (status : ℕ) (out reported rows : List ℕ) (files : FolderValue) (bytes : List ℕ) : Type 0 where
   pub status_fits : status < 2 ^ 32
   pub out_short : IsShortPiece out
   pub reported_short : IsShortPiece reported
+  pub rows_short : IsShortPiece rows
   pub files_short : AreShort files
-  pub is : bytes ≡ number_bytes status ++ (piece_bytes out ++ (piece_bytes reported ++ files_bytes files))
+  pub is : bytes ≡ number_bytes status ++ (piece_bytes out ++ (piece_bytes reported ++ (piece_bytes rows ++ files_bytes files)))
 
--- no bytes are another status, another output, another text or other files
+-- no bytes are another status, another output, another text, other rows or other files
 abbrev pub IsReadOnce : Type 0
-IsReadOnce = (bytes : List ℕ) (status other : ℕ) (out another reported text : List ℕ) (files more : FolderValue)
-    → IsOutcomeWritten status out reported files bytes
-    → IsOutcomeWritten other another text more bytes
-    → (status ≡ other) × (out ≡ another) × (reported ≡ text) × (files ≡ more)
+IsReadOnce = (bytes : List ℕ) (status other : ℕ) (out another reported text rows seen : List ℕ) (files more : FolderValue)
+    → IsOutcomeWritten status out reported rows files bytes
+    → IsOutcomeWritten other another text seen more bytes
+    → (status ≡ other) × (out ≡ another) × (reported ≡ text) × (rows ≡ seen) × (files ≡ more)

@@ -12,6 +12,6 @@ mod laws;
 mod reading;
 mod writing;
 
-pub use laws::{given_is_read_once, outcome_is_read_once};
+pub use laws::{given_is_read_once, outcome_is_read_once, pieces_are_cut};
 pub use reading::{Given, given_of};
 pub use writing::{add_number, add_piece, files_since, reported_of};

@@ -1,11 +1,14 @@
 //! The differences of two tables.
 
+ghost use Rattle.std.specs.Prelude.{◌≡◌, OnOk, map};
+ghost use Rattle.page_rows.specs.Codes.{Adds, AddsEach};
+ghost use Rattle.page_rows.specs.Comparisons.{difference_code, differences_code, drawn_difference, drawn_differences, drawn_packet, drawn_repeats, end_number, fate_numbers, packet_code, repeats_code, sign_number};
+
 use crate::charts::{add_row, add_steps};
-use crate::numbers::{add_count, add_flag, add_number, add_wide};
+use crate::numbers::{add_count, add_flag, add_number, add_piece, add_wide};
 use differences::{Repeats, Sign};
 use job_charts::different_rows::Difference;
 use job_charts::packets::{PacketFate, RowPacket};
-use page_format::add_piece;
 use spw::End;
 use std::alloc::AllocError;
 
@@ -43,7 +46,9 @@ fn fate_numbers(fate: PacketFate) -> (u32, u32)
 }
 
 /// Adds how often a packet must come.
-fn add_repeats(bytes: &mut Vec<u8>, repeats: Repeats) -> Result<(), AllocError> {
+fn add_repeats(bytes: &mut Vec<u8>, repeats: Repeats) -> Result<(), AllocError>
+    ensures { OnOk result (Adds repeats_code (drawn_repeats repeats) bytes.old.items bytes.new.items) }
+{
     match repeats {
         Repeats::Times(times) => {
             add_flag(bytes, true)?;
@@ -54,7 +59,9 @@ fn add_repeats(bytes: &mut Vec<u8>, repeats: Repeats) -> Result<(), AllocError> 
 }
 
 /// Adds a packet.
-fn add_packet(bytes: &mut Vec<u8>, own: &RowPacket) -> Result<(), AllocError> {
+fn add_packet(bytes: &mut Vec<u8>, own: &RowPacket) -> Result<(), AllocError>
+    ensures { OnOk result (Adds packet_code (drawn_packet own.now) bytes.old.items bytes.new.items) }
+{
     let (fate, status) = fate_numbers(own.fate);
     add_piece(bytes, own.packet.bytes())?;
     add_number(bytes, end_number(own.packet.end()))?;
@@ -63,7 +70,9 @@ fn add_packet(bytes: &mut Vec<u8>, own: &RowPacket) -> Result<(), AllocError> {
 }
 
 /// Adds a difference.
-fn add_difference(bytes: &mut Vec<u8>, own: &Difference) -> Result<(), AllocError> {
+fn add_difference(bytes: &mut Vec<u8>, own: &Difference) -> Result<(), AllocError>
+    ensures { OnOk result (Adds difference_code (drawn_difference own.now) bytes.old.items bytes.new.items) }
+{
     add_row(bytes, &own.row)?;
     add_steps(bytes, own.row.reported().new_path())?;
     add_number(bytes, sign_number(own.change.sign))?;
@@ -71,14 +80,21 @@ fn add_difference(bytes: &mut Vec<u8>, own: &Difference) -> Result<(), AllocErro
     add_packet(bytes, &own.packet)
 }
 
-/// Adds the differences of two tables.
-pub(crate) fn add_differences(
-    bytes: &mut Vec<u8>,
-    differences: &[Difference],
-) -> Result<(), AllocError> {
-    add_count(bytes, differences.len())?;
+/// Adds each of these differences.
+fn add_each_difference(bytes: &mut Vec<u8>, differences: &[Difference]) -> Result<(), AllocError>
+    ensures { OnOk result (AddsEach difference_code (map drawn_difference differences.now) bytes.old.items bytes.new.items) }
+{
     for own in differences {
         add_difference(bytes, own)?;
     }
     Ok(())
+}
+
+/// Adds the differences of two tables.
+pub(crate) fn add_differences(bytes: &mut Vec<u8>, differences: &[Difference]) -> Result<(), AllocError>
+    ensures { OnOk result (Adds differences_code (drawn_differences differences.now)
+        bytes.old.items bytes.new.items) }
+{
+    add_count(bytes, differences.len())?;
+    add_each_difference(bytes, differences)
 }

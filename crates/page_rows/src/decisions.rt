@@ -1,8 +1,11 @@
 //! What a table decides on packets.
 
-use crate::numbers::{add_count, add_flag, add_number};
+ghost use Rattle.std.specs.Prelude.{◌≡◌, OnOk, map};
+ghost use Rattle.page_rows.specs.Codes.{Adds, AddsEach, number_code, option_code};
+ghost use Rattle.page_rows.specs.Decisions.{by_numbers, decision_code, decisions_code, drawn_decision, drawn_decisions, line_of};
+
+use crate::numbers::{add_count, add_flag, add_number, add_piece};
 use job_decide::decisions::{DecidedBy, PacketDecision};
-use page_format::add_piece;
 use std::alloc::AllocError;
 
 /// The number of who decides, and that of what is decided.
@@ -27,7 +30,9 @@ fn line_of(by: DecidedBy) -> Option<usize>
 }
 
 /// Adds a line of a rule, if there is one.
-fn add_line(bytes: &mut Vec<u8>, line: Option<usize>) -> Result<(), AllocError> {
+fn add_line(bytes: &mut Vec<u8>, line: Option<usize>) -> Result<(), AllocError>
+    ensures { OnOk result (Adds (option_code number_code) line bytes.old.items bytes.new.items) }
+{
     match line {
         Some(line) => {
             add_flag(bytes, true)?;
@@ -38,7 +43,9 @@ fn add_line(bytes: &mut Vec<u8>, line: Option<usize>) -> Result<(), AllocError> 
 }
 
 /// Adds a decision.
-fn add_decision(bytes: &mut Vec<u8>, made: &PacketDecision) -> Result<(), AllocError> {
+fn add_decision(bytes: &mut Vec<u8>, made: &PacketDecision) -> Result<(), AllocError>
+    ensures { OnOk result (Adds decision_code (drawn_decision made.now) bytes.old.items bytes.new.items) }
+{
     let (who, what) = by_numbers(made.by);
     add_number(bytes, u32::from(made.port))?;
     add_number(bytes, who)?;
@@ -48,14 +55,21 @@ fn add_decision(bytes: &mut Vec<u8>, made: &PacketDecision) -> Result<(), AllocE
     add_piece(bytes, made.why.as_bytes())
 }
 
-/// Adds what is decided.
-pub(crate) fn add_decisions(
-    bytes: &mut Vec<u8>,
-    decisions: &[PacketDecision],
-) -> Result<(), AllocError> {
-    add_count(bytes, decisions.len())?;
+/// Adds each of these decisions.
+fn add_each_decision(bytes: &mut Vec<u8>, decisions: &[PacketDecision]) -> Result<(), AllocError>
+    ensures { OnOk result (AddsEach decision_code (map drawn_decision decisions.now) bytes.old.items bytes.new.items) }
+{
     for made in decisions {
         add_decision(bytes, made)?;
     }
     Ok(())
+}
+
+/// Adds what is decided.
+pub(crate) fn add_decisions(bytes: &mut Vec<u8>, decisions: &[PacketDecision]) -> Result<(), AllocError>
+    ensures { OnOk result (Adds decisions_code (drawn_decisions decisions.now)
+        bytes.old.items bytes.new.items) }
+{
+    add_count(bytes, decisions.len())?;
+    add_each_decision(bytes, decisions)
 }

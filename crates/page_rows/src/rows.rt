@@ -1,5 +1,9 @@
 //! The rows of a job.
 
+ghost use Rattle.std.specs.Prelude.{IfOk, OnOk};
+ghost use Rattle.page_rows.specs.Codes.{Adds};
+ghost use Rattle.page_rows.specs.Rows.{AreRowsWritten, drawn_rows, rows_code};
+
 use crate::charts::add_map;
 use crate::comparisons::add_differences;
 use crate::decisions::add_decisions;
@@ -9,7 +13,9 @@ use job_rows::JobRows;
 use std::alloc::{AllocError, Global};
 
 /// Adds the rows of a job.
-fn add_rows(bytes: &mut Vec<u8>, rows: &JobRows) -> Result<(), AllocError> {
+fn add_rows(bytes: &mut Vec<u8>, rows: &JobRows) -> Result<(), AllocError>
+    ensures { OnOk result (Adds rows_code (drawn_rows rows.now) bytes.old.items bytes.new.items) }
+{
     match rows {
         JobRows::Nothing => add_number(bytes, 0),
         JobRows::Map(chart) => {
@@ -36,7 +42,9 @@ fn add_rows(bytes: &mut Vec<u8>, rows: &JobRows) -> Result<(), AllocError> {
 /// # Errors
 ///
 /// If memory is refused, or a list has 2^32 items or more.
-pub fn rows_bytes(alloc: Global, rows: &JobRows) -> Result<Vec<u8>, AllocError> {
+pub fn rows_bytes(alloc: Global, rows: &JobRows) -> Result<Vec<u8>, AllocError>
+    ensures { IfOk result (λ bytes. AreRowsWritten rows.now bytes.items) }
+{
     let mut bytes = Vec::new(alloc);
     add_rows(&mut bytes, rows)?;
     Ok(bytes)

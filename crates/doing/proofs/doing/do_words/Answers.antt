@@ -9,8 +9,10 @@ returns c = record {
   end = c.in_ok-left.left.end;
   begun = c.new-desk.ensures.folder;
   silent = c.new-desk.ensures.silent;
+  bare = c.new-desk.ensures.bare;
   does = linkless _ _ _ _ _ _ _ _ c.in_ok-left.ensures;
   status = search rules;
   printed = search rules;
+  rows = search rules;
   folder = search rules;
 }
