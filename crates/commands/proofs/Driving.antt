@@ -69,11 +69,11 @@ module _ {D T L : Type 0} (desk : DeskWords D T L) where
   pub did_job : {V X Y : Type 0} (result : Result (Left D) Y) (done : Result JobEnd WriteFault) (closed : Result V X) (job : Job)
       (before : D) (start stop after : MachineFiles D) (first last : Option (List ℕ)) → start.desk ≡ before
       → reads_dump start.noted ≡ is_dump job → maps_for start.noted ≡ maps_of_job job → desk.opens before first
-      → IfOk done (λ own. Performs (ToldReads desk) (ToldWrites desk) job start stop first last own.status)
+      → IfOk done (λ own. Performs (ToldReads desk) (ToldWrites desk) job start stop first last own.rows own.status)
       → OnOk closed (desk.closes stop.desk last after.desk)
       → IfOk result (λ left. EndsJob desk done closed after.desk left.end left.desk)
       → IfOk result (λ left. DoesJob desk job before left.end left.desk)
-  did_job (Ok left) done closed job before start stop after first last begun dump maps opened performs closes (inl (own, is, ok, ended, again)) =
+  did_job (Ok left) done closed job before start stop after first last begun dump maps opened performs closes (inl (own, is, ok, ended, kept)) =
       inl (
         own.status,
         ended,
@@ -87,10 +87,11 @@ module _ {D T L : Type 0} (desk : DeskWords D T L) where
           dump = dump;
           maps = maps;
           opened = opened;
+          rows = own.rows;
           performs =
-              if_ok done own (λ (e : JobEnd). Performs (ToldReads desk) (ToldWrites desk) job start stop first last e.status) is performs;
+              if_ok done own (λ (e : JobEnd). Performs (ToldReads desk) (ToldWrites desk) job start stop first last e.rows e.status) is performs;
           printed = on_ok closed (desk.closes stop.desk last after.desk) ok closes;
-          again = again;
+          ended = kept;
         },
       )
   did_job (Ok left) done closed job before start stop after first last begun dump maps opened performs closes (inr loses) = inr loses

@@ -1,7 +1,8 @@
-mod PacketBytes
+mod Addresses
+mod AskingFault
+mod Changed
 mod Charted
 mod DifferAt
-mod Reporting
 mod Meeting
-mod AskingFault
-mod Addresses
+mod PacketBytes
+mod Reporting

@@ -291,6 +291,7 @@ fn text_of_differences(
 }
 
 /// Where two tables decide differently, of the commands that are asked of, with a packet for each difference.
+#[tactic(auto, using(crate::proofs::Changed::are_changed))]
 fn rows_of_tables(
     alloc: Global,
     words: &CompareWords,

@@ -40,6 +40,7 @@ fn difference(alloc: Global, windows: &Windows, row: ChartRow) -> Result<Differe
 /// # Errors
 ///
 /// An error if memory is refused.
+#[tactic(auto, using(crate::proofs::Changed::all_found))]
 pub fn differences_of(
     alloc: Global,
     windows: &Windows,

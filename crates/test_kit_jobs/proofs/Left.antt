@@ -25,7 +25,8 @@ use Rattle.job_trace.specs.Traced.{DoesTrace, IsNotTraced}
 use Rattle.job_parts.specs.Statuses.{exit_code}
 use Rattle.job_parts.specs.declared.status.ExitStatus.{ExitStatus}
 use Rattle.job_parts.specs.declared.status.ExitStatus.TheVariants.{Done, Failed, Misused}
-use Rattle.commands.specs.Performed.{IsJobDone, IsJobEnded, Performs}
+use Rattle.job_rows.specs.declared.lib.JobRows.{JobRows}
+use Rattle.commands.specs.Performed.{IsJobDone, IsJobEnded, PerformsSome}
 use Rattle.commands.specs.declared.jobs.Job.{Job}
 use Rattle.commands.specs.declared.jobs.Job.TheVariants.{Judge, Serve, Simulate, Trace, Assemble, Disassemble}
 use Rattle.commands.specs.declared.jobs.Job.TheVariants.{Verify, Policy, Explain, Why, Weigh, Node, Packet, Show}
@@ -209,31 +210,31 @@ at_done : (job : Job) (before after : FolderValue) (status : ExitStatus) → sta
 at_done job before after status is left = subst (λ (s : ExitStatus). Leaves job before after (exit_code s)) (sym is) left
 
 -- a job that came to its end
-done_leaves : (job : Job) (before after : FolderValue) (old new : Option (List ℕ)) (status : ExitStatus)
-    → IsJobDone FolderReads FolderWrites job before after old new status → Leaves job before after (exit_code status)
-done_leaves (Assemble words) before after old new status done =
+done_leaves : (job : Job) (before after : FolderValue) (old new : Option (List ℕ)) (rows : JobRows) (status : ExitStatus)
+    → IsJobDone FolderReads FolderWrites job before after old new rows status → Leaves job before after (exit_code status)
+done_leaves (Assemble words) before after old new rows status done =
     at_done (Assemble words) before after status done.0 (assembled before _ _ after old new done.1)
-done_leaves (Disassemble words) before after old new status done = done.1.image.read.0
-done_leaves (Verify args) before after old new status done = done.1.image.read.0
-done_leaves (Judge args) before after old new status done =
+done_leaves (Disassemble words) before after old new rows status done = done.1.image.read.0
+done_leaves (Verify args) before after old new rows status done = done.1.image.read.0
+done_leaves (Judge args) before after old new rows status done =
     ready_all args before done.1.text done.1.fresh after done.1.ready
-done_leaves (Policy words) before after old new status done =
+done_leaves (Policy words) before after old new rows status done =
     at_done (Policy words) before after status done.0 (compiled before _ _ words.sizes after old new done.1)
-done_leaves (Serve args) before after old new status done = given_all args before done.1.serves.text done.1.serves.own done.1.serves.program after done.1.serves.given
-done_leaves (Simulate args) before after old new status done = simulated args before after old new status done
-done_leaves (Explain words) before after old new status done = done.0
-done_leaves (Why args) before after old new status done = done.read.0
-done_leaves (Weigh words) before after old new status done = done.1.image.read.0
-done_leaves (Node words) before after old new status done =
+done_leaves (Serve args) before after old new rows status done = given_all args before done.1.serves.text done.1.serves.own done.1.serves.program after done.1.serves.given
+done_leaves (Simulate args) before after old new rows status done = simulated args before after old new status done
+done_leaves (Explain words) before after old new rows status done = done.0
+done_leaves (Why args) before after old new rows status done = done.read.0
+done_leaves (Weigh words) before after old new rows status done = done.1.image.read.0
+done_leaves (Node words) before after old new rows status done =
     some_read done.1.between after done.1.read.only_reads ∙ asked _ before done.1.table done.1.between done.1.asked
-done_leaves (Packet words) before after old new status done = made_file words before after old new status done
-done_leaves (Show words) before after old new status done = done.1.read.0
-done_leaves (Decide words) before after old new status done = decides_file words before after old new status done
-done_leaves (Trace args) before after old new status done = traced args before after old new status done
-done_leaves (Compare words) before after old new status done = compares_file words before after old new status done
-done_leaves (Map words) before after old new status done = maps_file words before after old new status done
-done_leaves (Rehearse words) before after old new status done = rehearses_file words before after old new status done
-done_leaves (Suite words) before after old new status done = prints_suite words before after old new done.1
+done_leaves (Packet words) before after old new rows status done = made_file words before after old new status done
+done_leaves (Show words) before after old new rows status done = done.1.read.0
+done_leaves (Decide words) before after old new rows status done = decides_file words before after old new done.end done.decides
+done_leaves (Trace args) before after old new rows status done = traced args before after old new status done
+done_leaves (Compare words) before after old new rows status done = compares_file words before after old new done.end done.compares
+done_leaves (Map words) before after old new rows status done = maps_file words before after old new done.end done.maps
+done_leaves (Rehearse words) before after old new rows status done = rehearses_file words before after old new done.end done.rehearses
+done_leaves (Suite words) before after old new rows status done = prints_suite words before after old new done.1
 
 -- a job that a fault ended
 ended_leaves : (job : Job) (before after : FolderValue) (old new : Option (List ℕ)) (fault : Fault)
@@ -260,8 +261,8 @@ ended_leaves (Suite words) before after old new fault ended = no_suite words bef
 
 -- what a job that ended with this status leaves
 pub performed_leaves : (job : Job) (before after : FolderValue) (old new : Option (List ℕ)) (status : ExitStatus)
-    → Performs FolderReads FolderWrites job before after old new status → Leaves job before after (exit_code status)
-performed_leaves job before after old new status (inl done) = done_leaves job before after old new status done
-performed_leaves job before after old new status (inr (is, reported)) =
+    → PerformsSome FolderReads FolderWrites job before after old new status → Leaves job before after (exit_code status)
+performed_leaves job before after old new status (rows, inl (done, own)) = done_leaves job before after old new rows status done
+performed_leaves job before after old new status (rows, inr (is, none, reported)) =
     subst (λ (s : ExitStatus). Leaves job before after (exit_code s)) (sym is)
     (ended_leaves job before after old reported.printed reported.fault reported.ended)
