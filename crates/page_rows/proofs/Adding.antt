@@ -1,43 +1,44 @@
 -- What is added to bytes.
-use Rattle.std.proofs.Common.{◌≡◌, ◌++◌, ◌<◌, ◌^◌, ◌∙◌, ℕ, List, [], ◌∷◌, All, Bool, true, false, Option, None, Some, length, refl, sym, ap, subst, Result, Ok, Err, OnOk}
+use Rattle.std.proofs.Common.{◌≡◌, ◌++◌, ◌<◌, ◌^◌, ◌∙◌, ℕ, List, [], ◌∷◌, All, true, false, Option, None, Some, length, refl, sym, ap, subst, Result, Ok, Err, OnOk}
 use Rattle.std.proofs.lemmas.List.{append_assoc, append-nil}
+use Rattle.std.proofs.lemmas.List.Elements.{All-cons, All-nil}
 use Rattle.page_rows.specs.Codes.{Adds, AddsEach, Code, both, each_bytes, flag_code, list_code, number_code, option_code}
 
 -- a value after another
-pub both_added : {X Y T E : Type 0} {one : Code X} {other : Code Y} {x : X} {y : Y} {old mid new : List ℕ} (r : Result T E)
+pub both_added : {X Y T E : Type 0} (one : Code X) (other : Code Y) (x : X) (y : Y) (old mid new : List ℕ) (r : Result T E)
     → Adds one x old mid → OnOk r (Adds other y mid new) → OnOk r (Adds (both one other) (x, y) old new)
-both_added {X} {Y} {T} {E} {one} {other} {x} {y} {old} {mid} {new} (Ok it) first second = record {
+both_added one other x y old mid new (Ok it) first second = record {
   fits = (first.fits, second.fits);
   is = second.is ∙ ap (λ (b : List ℕ). b ++ other.bytes y) first.is ∙ append_assoc old (one.bytes x) (other.bytes y);
 }
-both_added (Err it) first second = tt
+both_added one other x y old mid new (Err it) first second = tt
 
 -- the values of a list after their number
-pub list_added : {X T E : Type 0} {one : Code X} {values : List X} {count : ℕ} {old mid new : List ℕ} (r : Result T E)
+pub list_added : {X T E : Type 0} (one : Code X) (values : List X) (count : ℕ) (old mid new : List ℕ) (r : Result T E)
     → Adds number_code count old mid → count ≡ length values → OnOk r (AddsEach one values mid new)
     → OnOk r (Adds (list_code one) values old new)
-list_added {X} {T} {E} {one} {values} {count} {old} {mid} {new} (Ok it) first counted second = record {
+list_added one values count old mid new (Ok it) first counted second = record {
   fits = (subst (λ (n : ℕ). n < 2 ^ 32) counted first.fits, second.fits);
   is = second.is ∙ ap (λ (b : List ℕ). b ++ each_bytes one.bytes values) first.is
       ∙ append_assoc old (number_code.bytes count) (each_bytes one.bytes values)
       ∙ ap (λ (n : ℕ). old ++ (number_code.bytes n ++ each_bytes one.bytes values)) counted;
 }
-list_added (Err it) first counted second = tt
+list_added one values count old mid new (Err it) first counted second = tt
 
 -- a value of an option
-pub some_added : {X T E : Type 0} {one : Code X} {x : X} {old mid new : List ℕ} (r : Result T E)
+pub some_added : {X T E : Type 0} (one : Code X) (x : X) (old mid new : List ℕ) (r : Result T E)
     → Adds flag_code true old mid → OnOk r (Adds one x mid new) → OnOk r (Adds (option_code one) (Some x) old new)
-some_added {X} {T} {E} {one} {x} {old} {mid} {new} (Ok it) first second = record {
+some_added one x old mid new (Ok it) first second = record {
   fits = second.fits;
   is = second.is ∙ ap (λ (b : List ℕ). b ++ one.bytes x) first.is ∙ append_assoc old (flag_code.bytes true) (one.bytes x);
 }
-some_added (Err it) first second = tt
+some_added one x old mid new (Err it) first second = tt
 
 -- no value of an option
-pub none_added : {X T E : Type 0} {one : Code X} {old new : List ℕ} (r : Result T E)
+pub none_added : {X T E : Type 0} (one : Code X) (old new : List ℕ) (r : Result T E)
     → OnOk r (Adds flag_code false old new) → OnOk r (Adds (option_code one) None old new)
-none_added (Ok it) first = record { fits = tt; is = first.is }
-none_added (Err it) first = tt
+none_added one old new (Ok it) first = record { fits = tt; is = first.is }
+none_added one old new (Err it) first = tt
 
 -- these values were added, except the last ones, which are left
 pub record AreLeft {X : Type 0} (code : Code X) (old : List ℕ) (values : List X) (now : List ℕ) (left : List X) : Type 0 where
@@ -51,14 +52,14 @@ pub one_left : {X : Type 0} (code : Code X) (old now next : List ℕ) (value : X
     → Adds code value now next
     → AreLeft code old values next left
 one_left code old now next value values left are adds = record {
-  fits = λ own. are.fits (adds.fits, own);
+  fits = λ own. are.fits (All-cons value left adds.fits own);
   is = ap (λ (b : List ℕ). b ++ each_bytes code.bytes left) adds.is
       ∙ append_assoc now (code.bytes value) (each_bytes code.bytes left)
       ∙ are.is;
 }
 
 pub all_left : {X : Type 0} (code : Code X) (old now : List ℕ) (values left : List X) → AreLeft code old values now left → left ≡ [] → AddsEach code values old now
-all_left code old now values left are empty = record {
-  fits = are.fits (subst (λ (l : List X). All code.fits l) (sym empty) tt);
+all_left {X} code old now values left are empty = record {
+  fits = are.fits (subst (λ (l : List X). All code.fits l) (sym empty) All-nil);
   is = sym (append-nil now) ∙ ap (λ (l : List X). now ++ each_bytes code.bytes l) (sym empty) ∙ are.is;
 }

@@ -3,6 +3,7 @@ use Rattle.std.proofs.Common.{◌≡◌, ◌++◌, ◌+◌, ◌<◌, ◌^◌, �
 use Rattle.std.specs.Int.{from_le_bytes, to_le_bytes, w64}
 use Rattle.std.proofs.lemmas.Nat.{from_le_bytes-to_le_bytes_8}
 use Rattle.std.proofs.lemmas.List.{append_assoc, append-nil, drop_at, take_at}
+use Rattle.std.proofs.lemmas.List.Elements.{All-head, All-tail}
 use Rattle.page_format.specs.Pieces.{ArePiecesCut, number_bytes}
 use Rattle.page_rows.specs.Charts.{chart_code, kinds_code, lines_code, note_code, quota_code, reason_code, region_code, row_code, set_code, step_code, steps_code, stretch_code}
 use Rattle.page_rows.specs.Codes.{Code, IsCutOnce, both, each_bytes, flag_code, flag_number, list_code, long_code, number_code, option_code, piece_code, plain_code, wide_code}
@@ -76,9 +77,9 @@ module _ (law : ArePiecesCut) where
   each_cut one cut [] (y ∷ ys) rest more fits small long same = absurd (omega (arith, long))
   each_cut one cut (x ∷ xs) [] rest more fits small long same = absurd (omega (arith, long))
   each_cut one cut (x ∷ xs) (y ∷ ys) rest more fits small long same =
-      let first = cut x y (each_bytes one.bytes xs ++ rest) (each_bytes one.bytes ys ++ more) fits.0 small.0
+      let first = cut x y (each_bytes one.bytes xs ++ rest) (each_bytes one.bytes ys ++ more) (All-head x xs fits) (All-head y ys small)
       (sym (append_assoc (one.bytes x) (each_bytes one.bytes xs) rest) ∙ same ∙ append_assoc (one.bytes y) (each_bytes one.bytes ys) more) in
-      let later = each_cut one cut xs ys rest more fits.1 small.1 (omega (arith, long)) first.1 in
+      let later = each_cut one cut xs ys rest more (All-tail x xs fits) (All-tail y ys small) (omega (arith, long)) first.1 in
       (ap₂ (λ (v : _) (vs : _). v ∷ vs) first.0 later.0, later.1)
 
   list_cut : {X : Type 0} (one : Code X) → IsCutOnce one → IsCutOnce (list_code one)

@@ -5,7 +5,9 @@ use Rattle.std.proofs.lemmas.Bool.Decides.{nat_tests}
 use Rattle.std.proofs.lemmas.List.{length-append}
 use Rattle.regions.specs.ByteSets.{has_byte}
 use Rattle.regions.specs.declared.byte_sets.ByteSet.{ByteSet}
-use Rattle.page_rows.specs.Sets.{AreSetsRead, bit, bit_of, byte_at, half_at, set_bytes_below}
+use Rattle.page_rows.specs.Charts.{set_code}
+use Rattle.page_rows.specs.Codes.{Adds}
+use Rattle.page_rows.specs.Sets.{AreSetsRead, bit, bit_of, byte_at, half_at, set_bytes, set_bytes_below}
 use Rattle.page_rows.proofs.Cutting.{bytes_cut}
 
 small_bit : (is : Bool) → bit is < 2
@@ -75,19 +77,20 @@ module _ (set other : ByteSet) where
   bit_at from (suc (suc (suc (suc (suc (suc (suc zero))))))) few same = moved (from + 4 + 3) (from + 7) (omega arith) (same_half (from + 4) (high_half from same)).fourth
   bit_at from (suc (suc (suc (suc (suc (suc (suc (suc i)))))))) few same = absurd (omega (arith, few))
 
-  -- each byte of the first ones: the last of them, or one before it
-  byte_of : (count place : ℕ) → place < count → set_bytes_below set count ≡ set_bytes_below other count → byte_at set (8 * place) ≡ byte_at other (8 * place)
-  byte_of_by : (last place : ℕ) (t : Bool) → nat_lt place last ≡ t → place < suc last → set_bytes_below set last ≡ set_bytes_below other last
+  -- a byte of the first ones: the last of them, or one before it
+  last_or : (last place : ℕ) (t : Bool) → nat_lt place last ≡ t → place < suc last → (place < last → byte_at set (8 * place) ≡ byte_at other (8 * place))
       → byte_at set (8 * last) ∷ [] ≡ byte_at other (8 * last) ∷ [] → byte_at set (8 * place) ≡ byte_at other (8 * place)
+  last_or last place true is less before own =
+      let within : place < last = grind (arith, nat_tests) in before within
+  last_or last place false is less before own =
+      let at : last ≡ place = grind (arith, nat_tests) in
+      subst (λ (k : ℕ). byte_at set (8 * k) ≡ byte_at other (8 * k)) at (ap (λ (b : List ℕ). get_or b 0 0) own)
+
+  byte_of : (count place : ℕ) → place < count → set_bytes_below set count ≡ set_bytes_below other count → byte_at set (8 * place) ≡ byte_at other (8 * place)
   byte_of zero place less same = absurd (omega (arith, less))
   byte_of (suc last) place less same =
       let cut = bytes_cut (set_bytes_below set last) (set_bytes_below other last) (byte_at set (8 * last) ∷ []) (byte_at other (8 * last) ∷ []) (length_below set last ∙ sym (length_below other last)) same in
-      byte_of_by last place (nat_lt place last) refl less cut.0 cut.1
-  byte_of_by last place true is less before own =
-      let within : place < last = grind (arith, nat_tests) in byte_of last place within before
-  byte_of_by last place false is less before own =
-      let at : last ≡ place = grind (arith, nat_tests) in
-      subst (λ (k : ℕ). byte_at set (8 * k) ≡ byte_at other (8 * k)) at (ap (λ (b : List ℕ). get_or b 0 0) own)
+      last_or last place (nat_lt place last) refl less (λ within. byte_of last place within cut.0) cut.1
 
   read : set_bytes_below set 32 ≡ set_bytes_below other 32 → (byte : ℕ) → byte < 256 → has_byte set byte ≡ has_byte other byte
   read same byte less =
@@ -99,3 +102,10 @@ module _ (set other : ByteSet) where
 
 pub sets_read : AreSetsRead
 sets_read set other same byte less = read set other same byte less
+
+-- a set was added, byte by byte
+pub set_added : (set : ByteSet) (old now : List ℕ) (place : ℕ) → place ≡ 32 → now ≡ old ++ set_bytes_below set place → Adds set_code (set_bytes set) old now
+set_added set old now place all is = record {
+  fits = length_below set 32;
+  is = is ∙ ap (λ (n : ℕ). old ++ set_bytes_below set n) all;
+}

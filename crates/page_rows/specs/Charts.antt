@@ -18,9 +18,11 @@ use Rattle.page_rows.specs.Sets.{set_bytes}
 abbrev pub DrawnQuota : Type 0
 DrawnQuota = ℕ × ℕ × ℕ
 
+-- of a rule
 abbrev pub drawn_quota : Quota → DrawnQuota
 drawn_quota quota = (quota.map, quota.cell, quota.limit)
 
+-- three numbers
 abbrev pub quota_code : Code DrawnQuota
 quota_code = both number_code (both number_code number_code)
 
@@ -33,12 +35,15 @@ drawn_rule_quota (Some quota) = Some (drawn_quota quota)
 abbrev pub DrawnStep : Type 0
 DrawnStep = ℕ × ℕ × Option DrawnQuota
 
+-- of a rule that is asked
 abbrev pub drawn_step : AskedRule → DrawnStep
 drawn_step step = (step.number, verdict_number step.rule.verdict, drawn_rule_quota step.rule.quota)
 
+-- two numbers, and the option of a quota
 abbrev pub step_code : Code DrawnStep
 step_code = both number_code (both number_code (option_code quota_code))
 
+-- a list of steps
 abbrev pub steps_code : Code (List DrawnStep)
 steps_code = list_code step_code
 
@@ -46,9 +51,11 @@ steps_code = list_code step_code
 abbrev pub DrawnKinds : Type 0
 DrawnKinds = Bool × Bool × Bool
 
+-- of a set of kinds
 abbrev pub drawn_kinds : Kinds → DrawnKinds
 drawn_kinds kinds = (kinds.read, kinds.write, kinds.rmw)
 
+-- three flags
 abbrev pub kinds_code : Code DrawnKinds
 kinds_code = both flag_code (both flag_code flag_code)
 
@@ -56,6 +63,7 @@ kinds_code = both flag_code (both flag_code flag_code)
 abbrev pub drawn_stretch : Stretch → ℕ × ℕ
 drawn_stretch stretch = (stretch.start, stretch.end)
 
+-- two long numbers
 abbrev pub stretch_code : Code (ℕ × ℕ)
 stretch_code = both long_code long_code
 
@@ -67,6 +75,7 @@ set_code = plain_code 32
 abbrev pub DrawnRegion : Type 0
 DrawnRegion = DrawnKinds × List ℕ × List ℕ × List ℕ × (ℕ × ℕ) × (ℕ × ℕ)
 
+-- of a region
 abbrev pub drawn_region : PointRegion → DrawnRegion
 drawn_region region = (
   drawn_kinds region.kinds,
@@ -77,6 +86,7 @@ drawn_region region = (
   drawn_stretch region.last,
 )
 
+-- kinds, three sets and two stretches
 abbrev pub region_code : Code DrawnRegion
 region_code = both kinds_code (both set_code (both set_code (both set_code (both stretch_code stretch_code))))
 
@@ -84,9 +94,11 @@ region_code = both kinds_code (both set_code (both set_code (both set_code (both
 abbrev pub DrawnRow : Type 0
 DrawnRow = List ℕ × DrawnRegion × Bool × List DrawnStep
 
+-- of a row
 abbrev pub drawn_row : RowValue → DrawnRow
 drawn_row row = (row.ports, drawn_region row.reported.region, row.reported.rest, map drawn_step row.reported.decision_path)
 
+-- a piece, a region, a flag and steps
 abbrev pub row_code : Code DrawnRow
 row_code = both piece_code (both region_code (both flag_code steps_code))
 
@@ -100,6 +112,7 @@ drawn_reason NoTicket = (0, [])
 drawn_reason (Drawn lines) = (1, lines.items)
 drawn_reason (Before lines) = (2, lines.items)
 
+-- a number and lines
 abbrev pub reason_code : Code (ℕ × List ℕ)
 reason_code = both number_code lines_code
 
@@ -107,9 +120,11 @@ reason_code = both number_code lines_code
 abbrev pub DrawnNote : Type 0
 DrawnNote = ℕ × ℕ × List ℕ
 
+-- of a rule that never matches
 abbrev pub drawn_note : Note → DrawnNote
 drawn_note note = (note.line, drawn_reason note.reason)
 
+-- a number and a reason
 abbrev pub note_code : Code DrawnNote
 note_code = both number_code reason_code
 
@@ -117,8 +132,10 @@ note_code = both number_code reason_code
 abbrev pub DrawnMap : Type 0
 DrawnMap = List DrawnRow × List DrawnNote × Bool
 
+-- of a map
 abbrev pub drawn_map : MapRows → DrawnMap
 drawn_map chart = (map drawn_row chart.rows.items, map drawn_note chart.never.items, chart.is_whole)
 
+-- rows, rules and a flag
 abbrev pub chart_code : Code DrawnMap
 chart_code = both (list_code row_code) (both (list_code note_code) flag_code)

@@ -14,8 +14,8 @@ pub record Adds {X : Type 0} (code : Code X) (value : X) (old new : List ℕ) : 
   pub is : new ≡ old ++ code.bytes value
 
 -- a value is the only one whose bytes, with any bytes after them, are these
-abbrev pub IsCutOnce_code : {X : Type 0} → Code X → Type 0
-IsCutOnce_code {X} code = (value_code other : X) (rest more : List ℕ) → code.fits value_code → code.fits other
+abbrev pub IsCutOnce : {X : Type 0} → Code X → Type 0
+IsCutOnce {X} code = (value other : X) (rest more : List ℕ) → code.fits value → code.fits other
     → code.bytes value ++ rest ≡ code.bytes other ++ more
     → (value ≡ other) × (rest ≡ more)
 

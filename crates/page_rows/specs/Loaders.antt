@@ -19,6 +19,7 @@ passing_number Never = 3
 abbrev pub drawn_value : HeaderFieldValue → Bool × ℕ
 drawn_value value = (value.is_named, value.byte)
 
+-- a flag and a number
 abbrev pub value_code : Code (Bool × ℕ)
 value_code = both flag_code number_code
 
@@ -26,9 +27,11 @@ value_code = both flag_code number_code
 abbrev pub DrawnAsker : Type 0
 DrawnAsker = (Bool × ℕ) × (Bool × ℕ)
 
+-- of an asker
 abbrev pub drawn_asker : LoadInitiator → DrawnAsker
 drawn_asker asker = (drawn_value asker.initiator, drawn_value asker.key)
 
+-- two values
 abbrev pub asker_code : Code DrawnAsker
 asker_code = both value_code value_code
 
@@ -36,9 +39,11 @@ asker_code = both value_code value_code
 abbrev pub DrawnLoader : Type 0
 DrawnLoader = ℕ × ℕ × DrawnAsker × ℕ
 
+-- of a row of loads
 abbrev pub drawn_loader : LoaderRow → DrawnLoader
 drawn_loader row = (row.first, row.last, drawn_asker row.asker, passing_number row.passing)
 
+-- two numbers, an asker and a number
 abbrev pub loader_code : Code DrawnLoader
 loader_code = both number_code (both number_code (both asker_code number_code))
 
@@ -46,8 +51,10 @@ loader_code = both number_code (both number_code (both asker_code number_code))
 abbrev pub DrawnLoaders : Type 0
 DrawnLoaders = ℕ × List DrawnLoader
 
+-- of rows of loads
 abbrev pub drawn_loaders : LoaderRows → DrawnLoaders
 drawn_loaders loaders = (loaders.bytes, map drawn_loader loaders.rows.items)
 
+-- a number and a list of loaders
 abbrev pub loaders_code : Code DrawnLoaders
 loaders_code = both number_code (list_code loader_code)

@@ -17,6 +17,7 @@ pub data DrawnRows : Type 0 where
   LoadersOf : DrawnLoaders → DrawnRows
   DecisionsOf : List DrawnDecision → DrawnRows
 
+-- of the rows of a job
 abbrev pub drawn_rows : JobRows → DrawnRows
 drawn_rows Nothing = NoRows
 drawn_rows (Map own) = MapOf (drawn_map own)
@@ -32,6 +33,7 @@ rows_bytes (ComparisonOf found) = number_bytes 2 ++ differences_code.bytes found
 rows_bytes (LoadersOf own) = number_bytes 3 ++ loaders_code.bytes own
 rows_bytes (DecisionsOf made) = number_bytes 4 ++ decisions_code.bytes made
 
+-- they have bytes
 abbrev pub fit : DrawnRows → Type 0
 fit NoRows = Unit {0}
 fit (MapOf own) = chart_code.fits own
@@ -39,6 +41,7 @@ fit (ComparisonOf found) = differences_code.fits found
 fit (LoadersOf own) = loaders_code.fits own
 fit (DecisionsOf made) = decisions_code.fits made
 
+-- the rows of a job, by these
 abbrev pub rows_code : Code DrawnRows
 rows_code = record { bytes = rows_bytes; fits = fit }
 
