@@ -18,11 +18,11 @@ use Rattle.page_rows.specs.Sets.{set_bytes}
 abbrev pub DrawnQuota : Type 0
 DrawnQuota = ℕ × ℕ × ℕ
 
--- of a rule
+-- the quota of a rule as it is drawn
 abbrev pub drawn_quota : Quota → DrawnQuota
 drawn_quota quota = (quota.map, quota.cell, quota.limit)
 
--- three numbers
+-- a quota is three numbers
 abbrev pub quota_code : Code DrawnQuota
 quota_code = both number_code (both number_code number_code)
 
@@ -35,15 +35,15 @@ drawn_rule_quota (Some quota) = Some (drawn_quota quota)
 abbrev pub DrawnStep : Type 0
 DrawnStep = ℕ × ℕ × Option DrawnQuota
 
--- of a rule that is asked
+-- a rule that is asked as it is drawn
 abbrev pub drawn_step : AskedRule → DrawnStep
 drawn_step step = (step.number, verdict_number step.rule.verdict, drawn_rule_quota step.rule.quota)
 
--- two numbers, and the option of a quota
+-- a step is two numbers, and the option of a quota
 abbrev pub step_code : Code DrawnStep
 step_code = both number_code (both number_code (option_code quota_code))
 
--- a list of steps
+-- steps are a list
 abbrev pub steps_code : Code (List DrawnStep)
 steps_code = list_code step_code
 
@@ -51,11 +51,11 @@ steps_code = list_code step_code
 abbrev pub DrawnKinds : Type 0
 DrawnKinds = Bool × Bool × Bool
 
--- of a set of kinds
+-- a set of kinds as it is drawn
 abbrev pub drawn_kinds : Kinds → DrawnKinds
 drawn_kinds kinds = (kinds.read, kinds.write, kinds.rmw)
 
--- three flags
+-- kinds are three flags
 abbrev pub kinds_code : Code DrawnKinds
 kinds_code = both flag_code (both flag_code flag_code)
 
@@ -63,7 +63,7 @@ kinds_code = both flag_code (both flag_code flag_code)
 abbrev pub drawn_stretch : Stretch → ℕ × ℕ
 drawn_stretch stretch = (stretch.start, stretch.end)
 
--- two long numbers
+-- a stretch is two long numbers
 abbrev pub stretch_code : Code (ℕ × ℕ)
 stretch_code = both long_code long_code
 
@@ -75,7 +75,7 @@ set_code = plain_code 32
 abbrev pub DrawnRegion : Type 0
 DrawnRegion = DrawnKinds × List ℕ × List ℕ × List ℕ × (ℕ × ℕ) × (ℕ × ℕ)
 
--- of a region
+-- a region as it is drawn
 abbrev pub drawn_region : PointRegion → DrawnRegion
 drawn_region region = (
   drawn_kinds region.kinds,
@@ -86,7 +86,7 @@ drawn_region region = (
   drawn_stretch region.last,
 )
 
--- kinds, three sets and two stretches
+-- a region is kinds, three sets and two stretches
 abbrev pub region_code : Code DrawnRegion
 region_code = both kinds_code (both set_code (both set_code (both set_code (both stretch_code stretch_code))))
 
@@ -94,11 +94,11 @@ region_code = both kinds_code (both set_code (both set_code (both set_code (both
 abbrev pub DrawnRow : Type 0
 DrawnRow = List ℕ × DrawnRegion × Bool × List DrawnStep
 
--- of a row
+-- a row as it is drawn
 abbrev pub drawn_row : RowValue → DrawnRow
 drawn_row row = (row.ports, drawn_region row.reported.region, row.reported.rest, map drawn_step row.reported.decision_path)
 
--- a piece, a region, a flag and steps
+-- a row is a piece, a region, a flag and steps
 abbrev pub row_code : Code DrawnRow
 row_code = both piece_code (both region_code (both flag_code steps_code))
 
@@ -112,7 +112,7 @@ drawn_reason NoTicket = (0, [])
 drawn_reason (Drawn lines) = (1, lines.items)
 drawn_reason (Before lines) = (2, lines.items)
 
--- a number and lines
+-- a reason is a number and lines
 abbrev pub reason_code : Code (ℕ × List ℕ)
 reason_code = both number_code lines_code
 
@@ -120,11 +120,11 @@ reason_code = both number_code lines_code
 abbrev pub DrawnNote : Type 0
 DrawnNote = ℕ × ℕ × List ℕ
 
--- of a rule that never matches
+-- a rule that never matches as it is drawn
 abbrev pub drawn_note : Note → DrawnNote
 drawn_note note = (note.line, drawn_reason note.reason)
 
--- a number and a reason
+-- such a rule is a number and a reason
 abbrev pub note_code : Code DrawnNote
 note_code = both number_code reason_code
 
@@ -132,10 +132,10 @@ note_code = both number_code reason_code
 abbrev pub DrawnMap : Type 0
 DrawnMap = List DrawnRow × List DrawnNote × Bool
 
--- of a map
+-- a map as it is drawn
 abbrev pub drawn_map : MapRows → DrawnMap
 drawn_map chart = (map drawn_row chart.rows.items, map drawn_note chart.never.items, chart.is_whole)
 
--- rows, rules and a flag
+-- a map is its rows, its rules that never match, and a flag
 abbrev pub chart_code : Code DrawnMap
 chart_code = both (list_code row_code) (both (list_code note_code) flag_code)

@@ -26,7 +26,7 @@ abbrev pub drawn_repeats : Repeats → Option (ℕ × ℕ)
 drawn_repeats (Times times) = Some (wide_parts times)
 drawn_repeats Draws = None
 
--- an option of two long numbers
+-- how often is the option of two long numbers
 abbrev pub repeats_code : Code (Option (ℕ × ℕ))
 repeats_code = option_code wide_code
 
@@ -45,11 +45,11 @@ fate_numbers Discarded = (2, 0)
 abbrev pub DrawnPacket : Type 0
 DrawnPacket = List ℕ × ℕ × ℕ × ℕ
 
--- of the packet of a row
+-- the packet of a row as it is drawn
 abbrev pub drawn_packet : RowPacket → DrawnPacket
 drawn_packet own = (own.packet.bytes, end_number own.packet.end, fate_numbers own.fate)
 
--- a piece and three numbers
+-- a packet is a piece and three numbers
 abbrev pub packet_code : Code DrawnPacket
 packet_code = both piece_code (both number_code (both number_code number_code))
 
@@ -57,7 +57,7 @@ packet_code = both piece_code (both number_code (both number_code number_code))
 abbrev pub DrawnDifference : Type 0
 DrawnDifference = DrawnRow × List DrawnStep × ℕ × Option (ℕ × ℕ) × DrawnPacket
 
--- of a difference
+-- a difference as it is drawn
 abbrev pub drawn_difference : Difference → DrawnDifference
 drawn_difference own = (
   drawn_row own.row,
@@ -67,14 +67,14 @@ drawn_difference own = (
   drawn_packet own.packet,
 )
 
--- a row, steps, a number, how often, and a packet
+-- a difference is a row, steps, a number, how often, and a packet
 abbrev pub difference_code : Code DrawnDifference
 difference_code = both row_code (both steps_code (both number_code (both repeats_code packet_code)))
 
--- of differences
+-- differences as they are drawn
 abbrev pub drawn_differences : List Difference → List DrawnDifference
 drawn_differences found = map drawn_difference found
 
--- a list of differences
+-- differences are a list
 abbrev pub differences_code : Code (List DrawnDifference)
 differences_code = list_code difference_code

@@ -23,18 +23,18 @@ line_of (Discarded discard) = None
 abbrev pub DrawnDecision : Type 0
 DrawnDecision = ℕ × (ℕ × ℕ) × Option ℕ × List ℕ × List ℕ
 
--- of a decision
+-- what is decided on a packet as it is drawn
 abbrev pub drawn_decision : PacketDecision → DrawnDecision
 drawn_decision made = (made.port, by_numbers made.by, line_of made.by, string_bytes made.line, string_bytes made.why)
 
--- three numbers, an option, and two pieces
+-- a decision is three numbers, the option of a line, and two pieces
 abbrev pub decision_code : Code DrawnDecision
 decision_code = both number_code (both (both number_code number_code) (both (option_code number_code) (both piece_code piece_code)))
 
--- of decisions
+-- decisions as they are drawn
 abbrev pub drawn_decisions : List PacketDecision → List DrawnDecision
 drawn_decisions made = map drawn_decision made
 
--- a list of decisions
+-- decisions are a list
 abbrev pub decisions_code : Code (List DrawnDecision)
 decisions_code = list_code decision_code

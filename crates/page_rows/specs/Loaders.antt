@@ -19,7 +19,7 @@ passing_number Never = 3
 abbrev pub drawn_value : HeaderFieldValue → Bool × ℕ
 drawn_value value = (value.is_named, value.byte)
 
--- a flag and a number
+-- such a value is a flag and a number
 abbrev pub value_code : Code (Bool × ℕ)
 value_code = both flag_code number_code
 
@@ -27,11 +27,11 @@ value_code = both flag_code number_code
 abbrev pub DrawnAsker : Type 0
 DrawnAsker = (Bool × ℕ) × (Bool × ℕ)
 
--- of an asker
+-- who loads as it is drawn
 abbrev pub drawn_asker : LoadInitiator → DrawnAsker
 drawn_asker asker = (drawn_value asker.initiator, drawn_value asker.key)
 
--- two values
+-- who loads is two values
 abbrev pub asker_code : Code DrawnAsker
 asker_code = both value_code value_code
 
@@ -39,11 +39,11 @@ asker_code = both value_code value_code
 abbrev pub DrawnLoader : Type 0
 DrawnLoader = ℕ × ℕ × DrawnAsker × ℕ
 
--- of a row of loads
+-- a row of loads as it is drawn
 abbrev pub drawn_loader : LoaderRow → DrawnLoader
 drawn_loader row = (row.first, row.last, drawn_asker row.asker, passing_number row.passing)
 
--- two numbers, an asker and a number
+-- a loader is two numbers, who loads, and a number
 abbrev pub loader_code : Code DrawnLoader
 loader_code = both number_code (both number_code (both asker_code number_code))
 
@@ -51,10 +51,10 @@ loader_code = both number_code (both number_code (both asker_code number_code))
 abbrev pub DrawnLoaders : Type 0
 DrawnLoaders = ℕ × List DrawnLoader
 
--- of rows of loads
+-- rows of loads as they are drawn
 abbrev pub drawn_loaders : LoaderRows → DrawnLoaders
 drawn_loaders loaders = (loaders.bytes, map drawn_loader loaders.rows.items)
 
--- a number and a list of loaders
+-- they are a number and a list of loaders
 abbrev pub loaders_code : Code DrawnLoaders
 loaders_code = both number_code (list_code loader_code)

@@ -9,7 +9,7 @@ use Rattle.page_rows.specs.Comparisons.{DrawnDifference, differences_code, drawn
 use Rattle.page_rows.specs.Decisions.{DrawnDecision, decisions_code, drawn_decisions}
 use Rattle.page_rows.specs.Loaders.{DrawnLoaders, drawn_loaders, loaders_code}
 
--- the rows of a job, as they are drawn
+-- what the page draws of the rows of a job
 pub data DrawnRows : Type 0 where
   NoRows : DrawnRows
   MapOf : DrawnMap → DrawnRows
@@ -17,7 +17,7 @@ pub data DrawnRows : Type 0 where
   LoadersOf : DrawnLoaders → DrawnRows
   DecisionsOf : List DrawnDecision → DrawnRows
 
--- of the rows of a job
+-- the rows of a job as they are drawn
 abbrev pub drawn_rows : JobRows → DrawnRows
 drawn_rows Nothing = NoRows
 drawn_rows (Map own) = MapOf (drawn_map own)
@@ -25,7 +25,7 @@ drawn_rows (Comparison found) = ComparisonOf (drawn_differences found.items)
 drawn_rows (Loaders own) = LoadersOf (drawn_loaders own)
 drawn_rows (Decisions made) = DecisionsOf (drawn_decisions made.items)
 
--- a number, and what belongs to it
+-- the bytes of rows: a number, and what belongs to it
 abbrev pub rows_bytes : DrawnRows → List ℕ
 rows_bytes NoRows = number_bytes 0
 rows_bytes (MapOf own) = number_bytes 1 ++ chart_code.bytes own
@@ -41,7 +41,7 @@ fit (ComparisonOf found) = differences_code.fits found
 fit (LoadersOf own) = loaders_code.fits own
 fit (DecisionsOf made) = decisions_code.fits made
 
--- the rows of a job, by these
+-- rows are a number, and what belongs to it
 abbrev pub rows_code : Code DrawnRows
 rows_code = record { bytes = rows_bytes; fits = fit }
 
