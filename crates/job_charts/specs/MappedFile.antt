@@ -53,10 +53,6 @@ pub record PrintsMap (asking : ChartScope) (most : ℕ) (policy : PolicyValue) (
   pub text : List ℕ
   pub printed : Appends old new text
 
--- how `map` ends if it printed this map
-abbrev pub ended : MapRows → MapEnd
-ended chart = record { status = map_status chart.is_whole; chart = Some chart }
-
 module _ {S : Type 0} (reads : ReadsFile S) (words : MapWords) where
   -- the file has this text, which is a table whose lines have no fault for these maps
   abbrev pub IsTableGiven : (before : S) → (written : List ℕ) → PolicyValue → (after : S) → Type 0

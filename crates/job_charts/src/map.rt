@@ -10,7 +10,7 @@ ghost use Rattle.job_parts.specs.declared.inputs.Content.TheVariants.{Table};
 ghost use Rattle.job_parts.specs.Stops.{StopsBy};
 ghost use Rattle.job_charts.specs.ChartScope.{is_all};
 ghost use Rattle.job_charts.specs.MapJob.{GivesLines, IsLineCount, NamesMap, RefusesMap, map_app};
-ghost use Rattle.job_charts.specs.MappedFile.{IsMapOf, IsNotMapped, MapsFile, NotesFor, PrintsMap, ended, fits, map_status};
+ghost use Rattle.job_charts.specs.MappedFile.{IsMapOf, IsNotMapped, MapsFile, NotesFor, PrintsMap, fits, map_status};
 ghost use Rattle.job_packets.specs.HexWords.{Has};
 ghost use Rattle.job_parts.specs.Options.{IsBadValue, WritesSuch};
 ghost use Rattle.job_parts.specs.declared.faults.Fault.TheVariants.{NoMemory};
@@ -278,16 +278,6 @@ fn print_map<'a, W: Write>(
     Ok(chart)
 }
 
-/// How `map` ends if it printed this map.
-fn ended(chart: MapRows) -> MapEnd
-    ensures { result ≡ ended chart }
-{
-    MapEnd {
-        status: map_status(chart.is_whole),
-        chart: Some(chart),
-    }
-}
-
 /// Prints what the table of a file decides. At each port each command lies in only one line, with the rules that the
 /// table asks there. After these lines it prints the rules that match at no port. With `--markdown` the lines are a
 /// table in markdown, with the comments of the rules.
@@ -315,7 +305,11 @@ pub fn map_file<'a, F: Files, W: Write>(
     match text_and_table(alloc, files, words.table.as_str(), &words.sizes) {
         Ok((written, policy)) => {
             let chart = print_map(alloc, words, written.as_str(), &policy, out)?;
-            Ok(ended(chart))
+            let status = map_status(chart.is_whole);
+            Ok(MapEnd {
+                status,
+                chart: Some(chart),
+            })
         }
         Err(NoTable::Ended(fault)) => Err(JobStop::Ended(fault)),
         Err(NoTable::BadTable(fault)) => {
