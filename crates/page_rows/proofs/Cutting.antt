@@ -5,11 +5,11 @@ use Rattle.std.proofs.lemmas.Nat.{from_le_bytes-to_le_bytes_8}
 use Rattle.std.proofs.lemmas.List.{append_assoc, append-nil, drop_at, take_at}
 use Rattle.std.proofs.lemmas.List.Elements.{All-head, All-tail}
 use Rattle.page_format.specs.Pieces.{ArePiecesCut, number_bytes}
-use Rattle.page_rows.specs.Charts.{chart_code, kinds_code, lines_code, note_code, quota_code, reason_code, region_code, row_code, set_code, step_code, steps_code, stretch_code}
+use Rattle.page_rows.specs.Charts.{DrawnMap, chart_code, kinds_code, lines_code, note_code, quota_code, reason_code, region_code, row_code, set_code, step_code, steps_code, stretch_code}
 use Rattle.page_rows.specs.Codes.{Code, IsCutOnce, both, each_bytes, flag_code, flag_number, list_code, long_code, number_code, option_code, piece_code, plain_code, wide_code}
-use Rattle.page_rows.specs.Comparisons.{difference_code, differences_code, packet_code, repeats_code}
-use Rattle.page_rows.specs.Decisions.{decision_code, decisions_code}
-use Rattle.page_rows.specs.Loaders.{asker_code, loader_code, loaders_code, value_code}
+use Rattle.page_rows.specs.Comparisons.{DrawnDifference, difference_code, differences_code, packet_code, repeats_code}
+use Rattle.page_rows.specs.Decisions.{DrawnDecision, decision_code, decisions_code}
+use Rattle.page_rows.specs.Loaders.{DrawnLoaders, asker_code, loader_code, loaders_code, value_code}
 use Rattle.page_rows.specs.Rows.{AreReadOnce, ComparisonOf, DecisionsOf, DrawnRows, LoadersOf, MapOf, NoRows, drawn_rows, fit, rows_bytes}
 
 -- bytes of one length at the beginning, and what comes after them
@@ -28,11 +28,11 @@ long_cut value other rest more fits small same =
     (sym (from_le_bytes-to_le_bytes_8 value fits) ∙ ap (λ (b : List ℕ). from_le_bytes w64 b) cut.0 ∙ from_le_bytes-to_le_bytes_8 other small, cut.1)
 
 both_cut : {X Y : Type 0} (one : Code X) (other : Code Y) → IsCutOnce one → IsCutOnce other → IsCutOnce (both one other)
-both_cut one other first second x y rest more fits small same =
+both_cut {X} {Y} one other first second x y rest more fits small same =
     let front = first x.0 y.0 (other.bytes x.1 ++ rest) (other.bytes y.1 ++ more) fits.0 small.0
     (sym (append_assoc (one.bytes x.0) (other.bytes x.1) rest) ∙ same ∙ append_assoc (one.bytes y.0) (other.bytes y.1) more) in
     let back = second x.1 y.1 rest more fits.1 small.1 front.1 in
-    (ap₂ (λ (a : _) (b : _). (a, b)) front.0 back.0, back.1)
+    (ap₂ (λ (a : X) (b : Y). (a, b)) front.0 back.0, back.1)
 
 module _ (law : ArePiecesCut) where
   number_cut : IsCutOnce number_code
@@ -63,11 +63,11 @@ module _ (law : ArePiecesCut) where
       absurd (omega (arith, (law.number 0 1 rest (one.bytes y ++ more) (omega arith) (omega arith) (same ∙ append_assoc (number_bytes 1) (one.bytes y) more)).0))
   option_cut one cut (Some x) None rest more fits small same =
       absurd (omega (arith, (law.number 1 0 (one.bytes x ++ rest) more (omega arith) (omega arith) (sym (append_assoc (number_bytes 1) (one.bytes x) rest) ∙ same)).0))
-  option_cut one cut (Some x) (Some y) rest more fits small same =
+  option_cut {X} one cut (Some x) (Some y) rest more fits small same =
       let after = (law.number 1 1 (one.bytes x ++ rest) (one.bytes y ++ more) (omega arith) (omega arith)
       (sym (append_assoc (number_bytes 1) (one.bytes x) rest) ∙ same ∙ append_assoc (number_bytes 1) (one.bytes y) more)).1 in
       let own = cut x y rest more fits small after in
-      (ap (λ (v : _). Some v) own.0, own.1)
+      (ap (λ (v : X). Some v) own.0, own.1)
 
   -- values at the beginning, if there are as many, and what comes after them
   each_cut : {X : Type 0} (one : Code X) → IsCutOnce one → (xs ys : List X) (rest more : List ℕ) → All one.fits xs → All one.fits ys → length xs ≡ length ys
@@ -76,11 +76,11 @@ module _ (law : ArePiecesCut) where
   each_cut one cut [] [] rest more fits small long same = (refl, same)
   each_cut one cut [] (y ∷ ys) rest more fits small long same = absurd (omega (arith, long))
   each_cut one cut (x ∷ xs) [] rest more fits small long same = absurd (omega (arith, long))
-  each_cut one cut (x ∷ xs) (y ∷ ys) rest more fits small long same =
+  each_cut {X} one cut (x ∷ xs) (y ∷ ys) rest more fits small long same =
       let first = cut x y (each_bytes one.bytes xs ++ rest) (each_bytes one.bytes ys ++ more) (All-head x xs fits) (All-head y ys small)
       (sym (append_assoc (one.bytes x) (each_bytes one.bytes xs) rest) ∙ same ∙ append_assoc (one.bytes y) (each_bytes one.bytes ys) more) in
       let later = each_cut one cut xs ys rest more (All-tail x xs fits) (All-tail y ys small) (omega (arith, long)) first.1 in
-      (ap₂ (λ (v : _) (vs : _). v ∷ vs) first.0 later.0, later.1)
+      (ap₂ (λ (v : X) (vs : List X). v ∷ vs) first.0 later.0, later.1)
 
   list_cut : {X : Type 0} (one : Code X) → IsCutOnce one → IsCutOnce (list_code one)
   list_cut one cut xs ys rest more fits small same =
@@ -91,58 +91,73 @@ module _ (law : ArePiecesCut) where
   -- ---- the rows
 
   quota_cut : IsCutOnce quota_code
-  quota_cut = both_cut _ _ number_cut (both_cut _ _ number_cut number_cut)
+  quota_cut = both_cut number_code (both number_code number_code) number_cut (both_cut number_code number_code number_cut number_cut)
 
   step_cut : IsCutOnce step_code
-  step_cut = both_cut _ _ number_cut (both_cut _ _ number_cut (option_cut _ quota_cut))
+  step_cut = both_cut number_code (both number_code (option_code quota_code)) number_cut (both_cut number_code (option_code quota_code) number_cut (option_cut quota_code quota_cut))
 
   steps_cut : IsCutOnce steps_code
-  steps_cut = list_cut _ step_cut
+  steps_cut = list_cut step_code step_cut
 
   kinds_cut : IsCutOnce kinds_code
-  kinds_cut = both_cut _ _ flag_cut (both_cut _ _ flag_cut flag_cut)
+  kinds_cut = both_cut flag_code (both flag_code flag_code) flag_cut (both_cut flag_code flag_code flag_cut flag_cut)
 
   stretch_cut : IsCutOnce stretch_code
-  stretch_cut = both_cut _ _ long_cut long_cut
+  stretch_cut = both_cut long_code long_code long_cut long_cut
 
   set_cut : IsCutOnce set_code
   set_cut = plain_cut 32
 
   region_cut : IsCutOnce region_code
-  region_cut = both_cut _ _ kinds_cut (both_cut _ _ set_cut (both_cut _ _ set_cut (both_cut _ _ set_cut (both_cut _ _ stretch_cut stretch_cut))))
+  region_cut = both_cut kinds_code (both set_code (both set_code (both set_code (both stretch_code stretch_code)))) kinds_cut (both_cut set_code (both set_code (both set_code (both stretch_code stretch_code))) set_cut (both_cut set_code (both set_code (both stretch_code stretch_code)) set_cut (both_cut set_code (both stretch_code stretch_code) set_cut (both_cut stretch_code stretch_code stretch_cut stretch_cut))))
 
   row_cut : IsCutOnce row_code
-  row_cut = both_cut _ _ piece_cut (both_cut _ _ region_cut (both_cut _ _ flag_cut steps_cut))
+  row_cut = both_cut piece_code (both region_code (both flag_code steps_code)) piece_cut (both_cut region_code (both flag_code steps_code) region_cut (both_cut flag_code steps_code flag_cut steps_cut))
+
+  lines_cut : IsCutOnce lines_code
+  lines_cut = list_cut number_code number_cut
+
+  reason_cut : IsCutOnce reason_code
+  reason_cut = both_cut number_code lines_code number_cut lines_cut
 
   note_cut : IsCutOnce note_code
-  note_cut = both_cut _ _ number_cut (both_cut _ _ number_cut (list_cut _ number_cut))
+  note_cut = both_cut number_code reason_code number_cut reason_cut
 
   chart_cut : IsCutOnce chart_code
-  chart_cut = both_cut _ _ (list_cut _ row_cut) (both_cut _ _ (list_cut _ note_cut) flag_cut)
+  chart_cut = both_cut (list_code row_code) (both (list_code note_code) flag_code) (list_cut row_code row_cut) (both_cut (list_code note_code) flag_code (list_cut note_code note_cut) flag_cut)
+
+  wide_cut : IsCutOnce wide_code
+  wide_cut = both_cut long_code long_code long_cut long_cut
+
+  repeats_cut : IsCutOnce repeats_code
+  repeats_cut = option_cut wide_code wide_cut
 
   packet_cut : IsCutOnce packet_code
-  packet_cut = both_cut _ _ piece_cut (both_cut _ _ number_cut (both_cut _ _ number_cut number_cut))
+  packet_cut = both_cut piece_code (both number_code (both number_code number_code)) piece_cut (both_cut number_code (both number_code number_code) number_cut (both_cut number_code number_code number_cut number_cut))
 
   difference_cut : IsCutOnce difference_code
-  difference_cut = both_cut _ _ row_cut (both_cut _ _ steps_cut (both_cut _ _ number_cut (both_cut _ _ (option_cut _ (both_cut _ _ long_cut long_cut)) packet_cut)))
+  difference_cut = both_cut row_code (both steps_code (both number_code (both repeats_code packet_code))) row_cut (both_cut steps_code (both number_code (both repeats_code packet_code)) steps_cut (both_cut number_code (both repeats_code packet_code) number_cut (both_cut repeats_code packet_code repeats_cut packet_cut)))
 
   differences_cut : IsCutOnce differences_code
-  differences_cut = list_cut _ difference_cut
+  differences_cut = list_cut difference_code difference_cut
 
   value_cut : IsCutOnce value_code
-  value_cut = both_cut _ _ flag_cut number_cut
+  value_cut = both_cut flag_code number_code flag_cut number_cut
+
+  asker_cut : IsCutOnce asker_code
+  asker_cut = both_cut value_code value_code value_cut value_cut
 
   loader_cut : IsCutOnce loader_code
-  loader_cut = both_cut _ _ number_cut (both_cut _ _ number_cut (both_cut _ _ (both_cut _ _ value_cut value_cut) number_cut))
+  loader_cut = both_cut number_code (both number_code (both asker_code number_code)) number_cut (both_cut number_code (both asker_code number_code) number_cut (both_cut asker_code number_code asker_cut number_cut))
 
   loaders_cut : IsCutOnce loaders_code
-  loaders_cut = both_cut _ _ number_cut (list_cut _ loader_cut)
+  loaders_cut = both_cut number_code (list_code loader_code) number_cut (list_cut loader_code loader_cut)
 
   decision_cut : IsCutOnce decision_code
-  decision_cut = both_cut _ _ number_cut (both_cut _ _ (both_cut _ _ number_cut number_cut) (both_cut _ _ (option_cut _ number_cut) (both_cut _ _ piece_cut piece_cut)))
+  decision_cut = both_cut number_code (both (both number_code number_code) (both (option_code number_code) (both piece_code piece_code))) number_cut (both_cut (both number_code number_code) (both (option_code number_code) (both piece_code piece_code)) (both_cut number_code number_code number_cut number_cut) (both_cut (option_code number_code) (both piece_code piece_code) (option_cut number_code number_cut) (both_cut piece_code piece_code piece_cut piece_cut)))
 
   decisions_cut : IsCutOnce decisions_code
-  decisions_cut = list_cut _ decision_cut
+  decisions_cut = list_cut decision_code decision_cut
 
   -- the number of rows, and what comes after it
   tag : DrawnRows → ℕ
@@ -181,25 +196,25 @@ module _ (law : ArePiecesCut) where
   same_rows NoRows (LoadersOf its) fits small same after = absurd (omega (arith, same))
   same_rows NoRows (DecisionsOf its) fits small same after = absurd (omega (arith, same))
   same_rows (MapOf own) NoRows fits small same after = absurd (omega (arith, same))
-  same_rows (MapOf own) (MapOf its) fits small same after = ap (λ (v : _). MapOf v) (chart_cut own its [] [] fits small (append-nil (chart_code.bytes own) ∙ after ∙ sym (append-nil (chart_code.bytes its)))).0
+  same_rows (MapOf own) (MapOf its) fits small same after = ap (λ (v : DrawnMap). MapOf v) (chart_cut own its [] [] fits small (append-nil (chart_code.bytes own) ∙ after ∙ sym (append-nil (chart_code.bytes its)))).0
   same_rows (MapOf own) (ComparisonOf its) fits small same after = absurd (omega (arith, same))
   same_rows (MapOf own) (LoadersOf its) fits small same after = absurd (omega (arith, same))
   same_rows (MapOf own) (DecisionsOf its) fits small same after = absurd (omega (arith, same))
   same_rows (ComparisonOf own) NoRows fits small same after = absurd (omega (arith, same))
   same_rows (ComparisonOf own) (MapOf its) fits small same after = absurd (omega (arith, same))
-  same_rows (ComparisonOf own) (ComparisonOf its) fits small same after = ap (λ (v : _). ComparisonOf v) (differences_cut own its [] [] fits small (append-nil (differences_code.bytes own) ∙ after ∙ sym (append-nil (differences_code.bytes its)))).0
+  same_rows (ComparisonOf own) (ComparisonOf its) fits small same after = ap (λ (v : List DrawnDifference). ComparisonOf v) (differences_cut own its [] [] fits small (append-nil (differences_code.bytes own) ∙ after ∙ sym (append-nil (differences_code.bytes its)))).0
   same_rows (ComparisonOf own) (LoadersOf its) fits small same after = absurd (omega (arith, same))
   same_rows (ComparisonOf own) (DecisionsOf its) fits small same after = absurd (omega (arith, same))
   same_rows (LoadersOf own) NoRows fits small same after = absurd (omega (arith, same))
   same_rows (LoadersOf own) (MapOf its) fits small same after = absurd (omega (arith, same))
   same_rows (LoadersOf own) (ComparisonOf its) fits small same after = absurd (omega (arith, same))
-  same_rows (LoadersOf own) (LoadersOf its) fits small same after = ap (λ (v : _). LoadersOf v) (loaders_cut own its [] [] fits small (append-nil (loaders_code.bytes own) ∙ after ∙ sym (append-nil (loaders_code.bytes its)))).0
+  same_rows (LoadersOf own) (LoadersOf its) fits small same after = ap (λ (v : DrawnLoaders). LoadersOf v) (loaders_cut own its [] [] fits small (append-nil (loaders_code.bytes own) ∙ after ∙ sym (append-nil (loaders_code.bytes its)))).0
   same_rows (LoadersOf own) (DecisionsOf its) fits small same after = absurd (omega (arith, same))
   same_rows (DecisionsOf own) NoRows fits small same after = absurd (omega (arith, same))
   same_rows (DecisionsOf own) (MapOf its) fits small same after = absurd (omega (arith, same))
   same_rows (DecisionsOf own) (ComparisonOf its) fits small same after = absurd (omega (arith, same))
   same_rows (DecisionsOf own) (LoadersOf its) fits small same after = absurd (omega (arith, same))
-  same_rows (DecisionsOf own) (DecisionsOf its) fits small same after = ap (λ (v : _). DecisionsOf v) (decisions_cut own its [] [] fits small (append-nil (decisions_code.bytes own) ∙ after ∙ sym (append-nil (decisions_code.bytes its)))).0
+  same_rows (DecisionsOf own) (DecisionsOf its) fits small same after = ap (λ (v : List DrawnDecision). DecisionsOf v) (decisions_cut own its [] [] fits small (append-nil (decisions_code.bytes own) ∙ after ∙ sym (append-nil (decisions_code.bytes its)))).0
 
   pub rows_once : AreReadOnce
   rows_once bytes one other first second =

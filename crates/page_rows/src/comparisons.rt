@@ -1,11 +1,11 @@
 //! The differences of two tables.
 
 ghost use Rattle.std.specs.Prelude.{◌≡◌, OnOk, map};
-ghost use Rattle.page_rows.specs.Codes.{Adds, AddsEach};
+ghost use Rattle.page_rows.specs.Codes.{Adds, AddsEach, both, number_code};
 ghost use Rattle.page_rows.specs.Comparisons.{difference_code, differences_code, drawn_difference, drawn_differences, drawn_packet, drawn_repeats, end_number, fate_numbers, packet_code, repeats_code, sign_number};
 
 use crate::charts::{add_row, add_steps};
-use crate::numbers::{add_count, add_flag, add_number, add_piece, add_wide};
+use crate::numbers::{add_count, add_flag, add_number, add_piece, add_two, add_wide};
 use differences::{Repeats, Sign};
 use job_charts::different_rows::Difference;
 use job_charts::packets::{PacketFate, RowPacket};
@@ -34,14 +34,15 @@ fn end_number(end: End) -> u32
     }
 }
 
-/// The number of what a node does with a packet, and its status.
-fn fate_numbers(fate: PacketFate) -> (u32, u32)
-    ensures { (result.0, result.1) ≡ fate_numbers fate }
+/// Adds the number of what a node does with a packet, and the status.
+fn add_fate(bytes: &mut Vec<u8>, fate: PacketFate) -> Result<(), AllocError>
+    ensures { OnOk result (Adds (both number_code number_code) (fate_numbers fate)
+        bytes.old.items bytes.new.items) }
 {
     match fate {
-        PacketFate::Decided => (0, 0),
-        PacketFate::Answered(status) => (1, u32::from(status.code())),
-        PacketFate::Discarded => (2, 0),
+        PacketFate::Decided => add_two(bytes, 0, 0),
+        PacketFate::Answered(status) => add_two(bytes, 1, u32::from(status.code())),
+        PacketFate::Discarded => add_two(bytes, 2, 0),
     }
 }
 
@@ -62,11 +63,9 @@ fn add_repeats(bytes: &mut Vec<u8>, repeats: Repeats) -> Result<(), AllocError>
 fn add_packet(bytes: &mut Vec<u8>, own: &RowPacket) -> Result<(), AllocError>
     ensures { OnOk result (Adds packet_code (drawn_packet own.now) bytes.old.items bytes.new.items) }
 {
-    let (fate, status) = fate_numbers(own.fate);
     add_piece(bytes, own.packet.bytes())?;
     add_number(bytes, end_number(own.packet.end()))?;
-    add_number(bytes, fate)?;
-    add_number(bytes, status)
+    add_fate(bytes, own.fate)
 }
 
 /// Adds a difference.

@@ -1,21 +1,22 @@
 //! What a table decides on packets.
 
 ghost use Rattle.std.specs.Prelude.{◌≡◌, OnOk, map};
-ghost use Rattle.page_rows.specs.Codes.{Adds, AddsEach, number_code, option_code};
+ghost use Rattle.page_rows.specs.Codes.{Adds, AddsEach, both, number_code, option_code};
 ghost use Rattle.page_rows.specs.Decisions.{by_numbers, decision_code, decisions_code, drawn_decision, drawn_decisions, line_of};
 
-use crate::numbers::{add_count, add_flag, add_number, add_piece};
+use crate::numbers::{add_count, add_flag, add_number, add_piece, add_two};
 use job_decide::decisions::{DecidedBy, PacketDecision};
 use std::alloc::AllocError;
 
-/// The number of who decides, and that of what is decided.
-fn by_numbers(by: DecidedBy) -> (u32, u32)
-    ensures { (result.0, result.1) ≡ by_numbers by }
+/// Adds the number of who decides, and that of what is decided.
+fn add_by(bytes: &mut Vec<u8>, by: DecidedBy) -> Result<(), AllocError>
+    ensures { OnOk result (Adds (both number_code number_code) (by_numbers by)
+        bytes.old.items bytes.new.items) }
 {
     match by {
-        DecidedBy::Table { verdict, .. } => (0, u32::from(verdict.number())),
-        DecidedBy::Header(status) => (1, u32::from(status.code())),
-        DecidedBy::Discarded(discard) => (2, u32::from(discard.code())),
+        DecidedBy::Table { verdict, .. } => add_two(bytes, 0, u32::from(verdict.number())),
+        DecidedBy::Header(status) => add_two(bytes, 1, u32::from(status.code())),
+        DecidedBy::Discarded(discard) => add_two(bytes, 2, u32::from(discard.code())),
     }
 }
 
@@ -46,10 +47,8 @@ fn add_line(bytes: &mut Vec<u8>, line: Option<usize>) -> Result<(), AllocError>
 fn add_decision(bytes: &mut Vec<u8>, made: &PacketDecision) -> Result<(), AllocError>
     ensures { OnOk result (Adds decision_code (drawn_decision made.now) bytes.old.items bytes.new.items) }
 {
-    let (who, what) = by_numbers(made.by);
     add_number(bytes, u32::from(made.port))?;
-    add_number(bytes, who)?;
-    add_number(bytes, what)?;
+    add_by(bytes, made.by)?;
     add_line(bytes, line_of(made.by))?;
     add_piece(bytes, made.line.as_bytes())?;
     add_piece(bytes, made.why.as_bytes())

@@ -2,7 +2,7 @@
 
 ghost use Rattle.std.specs.Prelude.{◌≡◌, ◌≤◌, OnOk};
 ghost use Rattle.page_rows.specs.Charts.{set_code};
-ghost use Rattle.page_rows.specs.Codes.{Adds, flag_code, long_code, number_code, piece_code, wide_code, wide_parts};
+ghost use Rattle.page_rows.specs.Codes.{Adds, both, flag_code, long_code, number_code, piece_code, wide_code, wide_parts};
 ghost use Rattle.page_rows.specs.Sets.{bit_of, byte_at, half_at, set_bytes};
 
 use regions::ByteSet;
@@ -16,6 +16,15 @@ pub(crate) fn add_number(bytes: &mut Vec<u8>, number: u32) -> Result<(), AllocEr
     ensures { OnOk result (Adds number_code number bytes.old.items bytes.new.items) }
 {
     page_format::add_number(bytes, number)
+}
+
+/// Adds two numbers.
+pub(crate) fn add_two(bytes: &mut Vec<u8>, one: u32, other: u32) -> Result<(), AllocError>
+    ensures { OnOk result (Adds (both number_code number_code) (one, other)
+        bytes.old.items bytes.new.items) }
+{
+    add_number(bytes, one)?;
+    add_number(bytes, other)
 }
 
 /// Adds a count, or the line of a rule, if it is below 2^32.

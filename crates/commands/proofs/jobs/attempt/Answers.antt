@@ -8,7 +8,7 @@ use Rattle.commands.proofs.jobs.attempt.Goals as goal
 
 pub returns-in-Serve-clause-done : goal.returns-in-Serve-clause-done
 returns-in-Serve-clause-done g c =
-    subst (λ job. IfOk c.serve.result (IsJobDone g.F.Files.reads g.F.Files.writes job c.args.files.now c.serve.new.files (g.W.Write.contents c.args.out.now) (g.W.Write.contents c.serve.new.out))) (sym c.in-Serve.is)
+    subst (λ job. IfOk c.serve.result (IsJobDone g.F.Files.reads g.F.Files.writes job c.args.files.now c.serve.new.files (g.W.Write.contents c.args.out.now) (g.W.Write.contents c.serve.new.out) c.args.rows.now)) (sym c.in-Serve.is)
     (c.serve.ensures.done (subst (CanDo g.S.Serves.serves) c.in-Serve.is c.requires.can refl))
 
 pub returns-in-Serve-clause-stops : goal.returns-in-Serve-clause-stops
