@@ -1,6 +1,6 @@
 -- What is added to bytes.
-use Rattle.std.proofs.Common.{◌≡◌, ◌++◌, ◌<◌, ◌^◌, ◌∙◌, ℕ, List, [], ◌∷◌, All, true, false, Option, None, Some, length, refl, sym, ap, subst, Result, Ok, Err, OnOk}
-use Rattle.std.proofs.lemmas.List.{append_assoc, append-nil}
+use Rattle.std.proofs.Common.{◌≡◌, ◌++◌, ◌<◌, ◌^◌, ◌∙◌, ℕ, List, [], ◌∷◌, All, map, true, false, Option, None, Some, length, refl, sym, ap, subst, Result, Ok, Err, OnOk}
+use Rattle.std.proofs.lemmas.List.{append_assoc, append-nil, length-map}
 use Rattle.std.proofs.lemmas.List.Elements.{All-cons, All-nil}
 use Rattle.page_rows.specs.Codes.{Adds, AddsEach, Code, both, each_bytes, flag_code, list_code, number_code, option_code}
 
@@ -24,6 +24,13 @@ list_added one values count old mid new (Ok it) first counted second = record {
       ∙ ap (λ (n : ℕ). old ++ (number_code.bytes n ++ each_bytes one.bytes values)) counted;
 }
 list_added one values count old mid new (Err it) first counted second = tt
+
+-- the same of what is drawn of each
+pub mapped_added : {Z X T E : Type 0} (one : Code X) (draw : Z → X) (items : List Z) (count : ℕ) (old mid new : List ℕ) (r : Result T E)
+    → Adds number_code count old mid → count ≡ length items → OnOk r (AddsEach one (map draw items) mid new)
+    → OnOk r (Adds (list_code one) (map draw items) old new)
+mapped_added one draw items count old mid new r first counted second =
+    list_added one (map draw items) count old mid new r first (counted ∙ sym (length-map items draw)) second
 
 -- a value of an option
 pub some_added : {X T E : Type 0} (one : Code X) (x : X) (old mid new : List ℕ) (r : Result T E)

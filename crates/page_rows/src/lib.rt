@@ -46,7 +46,7 @@
 //!
 //! Words that ended with a fault have no rows: their number is 0. If they have rows, the exit status says the rest: that
 //! of a map which is cut is 1.
-#![tactic(auto, using(crate::proofs::Adding::both_added, crate::proofs::Adding::list_added, crate::proofs::Adding::some_added, crate::proofs::Adding::none_added, crate::proofs::Adding::first_left, crate::proofs::Adding::one_left, crate::proofs::Adding::all_left))]
+#![tactic(auto, using(crate::proofs::Adding::both_added, crate::proofs::Adding::list_added, crate::proofs::Adding::mapped_added, crate::proofs::Adding::some_added, crate::proofs::Adding::none_added, crate::proofs::Adding::first_left, crate::proofs::Adding::one_left, crate::proofs::Adding::all_left))]
 
 mod charts;
 mod comparisons;
