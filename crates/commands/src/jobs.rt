@@ -251,10 +251,10 @@ fn attempt<'a, S: Serves, F: Files, W: Write>(
         Job::Node(words) => print_node_file(alloc, words, files, out),
         Job::Packet(words) => packet_file(alloc, words, files, out),
         Job::Show(words) => show_file(alloc, words.lines.as_str(), files, out),
-        Job::Decide(words) => decide_file(alloc, words, files, out),
+        Job::Decide(words) => Ok(decide_file(alloc, words, files, out)?.status),
         Job::Compare(words) => compare_file(alloc, words, files, out),
         Job::Map(words) => map_file(alloc, words, files, out),
-        Job::Rehearse(words) => rehearse_file(alloc, words, files, out),
+        Job::Rehearse(words) => Ok(rehearse_file(alloc, words, files, out)?.status),
         Job::Suite(words) => suite_file(alloc, words, files, out),
     }
 }

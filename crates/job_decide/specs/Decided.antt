@@ -1,6 +1,5 @@
--- What is printed of a packet, and the tickets that were drawn.
-use Rattle.std.specs.Prelude.{◌≡◌, ℕ, List, [], Option, Some, None}
-use Rattle.std.specs.Io.KnownBytes.{Appends}
+-- What is decided on a packet, and the tickets that were drawn.
+use Rattle.std.specs.Prelude.{◌≡◌, ◌++◌, ℕ, List, [], Option, Some, None, option_map, string_bytes}
 use Rattle.machine.specs.declared.calls.Call.{Call}
 use Rattle.machine.specs.Memory.{Header, header}
 use Rattle.policy_table.specs.Counts.{after_draws, reported_on}
@@ -10,6 +9,7 @@ use Rattle.policy_table.specs.Passing.{passed_rules}
 use Rattle.policy_table.specs.Policies.{PolicyValue}
 use Rattle.policy_table.specs.PortTables.{lines_at}
 use Rattle.policy_table.specs.Ports.{rules_at}
+use Rattle.policy_table.specs.declared.matching.Match.{Match}
 use Rattle.policy_table.specs.declared.mismatches.Passed.{Passed}
 use Rattle.policy_table.specs.declared.rules.Rule.{Rule}
 use Rattle.rmap.specs.Checks.{header_check, header_status}
@@ -22,10 +22,13 @@ use Rattle.rmap.specs.declared.verdict.Verdict.{Verdict}
 use Rattle.rmap.specs.declared.verdict.Verdict.TheVariants.{Authorised, InvalidKey, NotAuthorised, InvalidLogicalAddress}
 use Rattle.spw.specs.Cargo.{Cargo}
 use Rattle.job_nodes.specs.JudgeJob.{discard_line}
-use Rattle.job_parts.specs.Printed.{PrintsMore}
 use Rattle.job_parts.specs.declared.stops.LineEnd.{LineEnd}
 use Rattle.job_parts.specs.declared.stops.LineEnd.TheVariants.{NoMemory}
 use Rattle.job_decide.specs.DecideJob.{match_line, status_text}
+use Rattle.job_decide.specs.Tables.{decision_line_of}
+use Rattle.job_decide.specs.declared.decisions.DecidedBy.{DecidedBy}
+use Rattle.job_decide.specs.declared.decisions.DecidedBy.TheVariants.{Discarded, Header, Table}
+use Rattle.job_decide.specs.declared.decisions.PacketDecision.{PacketDecision}
 
 -- why the rules before the one that decides do not match, if that one refuses
 abbrev pub reported_passed : Verdict → List Rule → Header → (draws : List Call) → List Passed
@@ -34,42 +37,60 @@ reported_passed InvalidKey rules header draws = passed_rules rules header draws
 reported_passed NotAuthorised rules header draws = passed_rules rules header draws
 reported_passed InvalidLogicalAddress rules header draws = passed_rules rules header draws
 
--- the rule by which a table of a port decides on the header of the command was printed, with its line among these, as
--- the counts answer its draws. More was printed after it, and the counts are those after its draws
-pub record PrintsMatch (port : ℕ) (rules : List Rule) (lines : List ℕ) (c : CommandValue) (before after : List ℕ)
-    (old new : Option (List ℕ)) : Type 0 where
-  pub reported : Option (List ℕ)
-  pub line : Appends old reported
-      (match_line port lines (matched rules (header c.front c.tail) (reported_on before rules (header c.front c.tail))))
-  pub more : PrintsMore reported new
+-- what decides, if the table does: the line of the rule, if there is one, and the verdict; the rules are in these lines
+abbrev pub decided_by : (lines : List ℕ) → Match → DecidedBy
+decided_by lines found = Table (option_map (λ number. decision_line_of lines number) found.rule) found.verdict
+
+-- the decision is by what the table of a port finds, and its line says so. Its rules are in these lines
+pub record ReportsMatch (port : ℕ) (lines : List ℕ) (found : Match) (made : PacketDecision) : Type 0 where
+  pub port_is : made.port ≡ port
+  pub by : made.by ≡ decided_by lines found
+  pub line : string_bytes made.line ≡ match_line port lines found
+
+-- the decision is by the rule by which a table of a port decides on the header of the command, with its line among
+-- these, as the counts answer its draws. The counts are those after its draws
+pub record DecidesByTable (port : ℕ) (rules : List Rule) (lines : List ℕ) (c : CommandValue) (before after : List ℕ)
+    (made : PacketDecision) : Type 0 where
+  pub reports : ReportsMatch port lines
+      (matched rules (header c.front c.tail) (reported_on before rules (header c.front c.tail))) made
   pub counts : after
       ≡ after_draws before (decision rules (header c.front c.tail) (reported_on before rules (header c.front c.tail))).0
 
 -- the same of the rules that are asked at the port, in their lines
-abbrev pub PrintsDecision : (port : ℕ) → PolicyValue → CommandValue → (before after : List ℕ) → (old new : Option (List ℕ)) → Type 0
-PrintsDecision port policy c before after old new =
-    PrintsMatch port (rules_at port policy.rules) (lines_at port policy.rules) c before after old new
+abbrev pub DecidesByPolicy : (port : ℕ) → PolicyValue → CommandValue → (before after : List ℕ) → PacketDecision → Type 0
+DecidesByPolicy port policy c before after made =
+    DecidesByTable port (rules_at port policy.rules) (lines_at port policy.rules) c before after made
 
--- the status of a command was printed, and more after it
-pub record PrintsStatus (port : ℕ) (status : Status) (old new : Option (List ℕ)) : Type 0 where
-  pub reported : Option (List ℕ)
-  pub line : Appends old reported (status_text port status)
-  pub more : PrintsMore reported new
+-- the decision is by a check of the header, with this status. Its line begins with the status, and there is none below
+-- it
+pub record ReportsStatus (port : ℕ) (status : Status) (made : PacketDecision) : Type 0 where
+  pub port_is : made.port ≡ port
+  pub by : made.by ≡ Header status
+  pub reason : List ℕ
+  pub line : string_bytes made.line ≡ status_text port status ++ reason
+  pub only : string_bytes made.why ≡ []
 
--- if the header of a command has a fault, the status was printed, and nothing drawn; on any other the table decides
-abbrev pub PrintsCommand : (port : ℕ) → PolicyValue → CommandValue → Option HeaderFault → (before after : List ℕ)
-    → (old new : Option (List ℕ)) → Type 0
-PrintsCommand port policy c (Some fault) before after old new =
-    (after ≡ before) × PrintsStatus port (header_status fault) old new
-PrintsCommand port policy c None before after old new = PrintsDecision port policy c before after old new
+-- the packet is discarded for this reason. Its line says so, and there is none below it
+pub record ReportsDiscard (port : ℕ) (discard : Discard) (made : PacketDecision) : Type 0 where
+  pub port_is : made.port ≡ port
+  pub by : made.by ≡ Discarded discard
+  pub line : string_bytes made.line ≡ discard_line port discard
+  pub only : string_bytes made.why ≡ []
 
--- if a packet is no command, the reason was printed, and nothing drawn
-abbrev pub PrintsPacket : WindowsValue → (port : ℕ) → PolicyValue → Cargo → Option Discard → (before after : List ℕ)
-    → (old new : Option (List ℕ)) → Type 0
-PrintsPacket windows port policy p (Some discard) before after old new =
-    (after ≡ before) × Appends old new (discard_line port discard)
-PrintsPacket windows port policy p None before after old new =
-    PrintsCommand port policy (command_of p) (header_check (command_of p) windows) before after old new
+-- if the header of a command has a fault, its check decides, and nothing was drawn; on any other the table decides
+abbrev pub DecidesOnCommand : (port : ℕ) → PolicyValue → CommandValue → Option HeaderFault → (before after : List ℕ)
+    → PacketDecision → Type 0
+DecidesOnCommand port policy c (Some fault) before after made =
+    (after ≡ before) × ReportsStatus port (header_status fault) made
+DecidesOnCommand port policy c None before after made = DecidesByPolicy port policy c before after made
+
+-- if a packet is no command, it is discarded, and nothing was drawn
+abbrev pub DecidesOnPacket : WindowsValue → (port : ℕ) → PolicyValue → Cargo → Option Discard → (before after : List ℕ)
+    → PacketDecision → Type 0
+DecidesOnPacket windows port policy p (Some discard) before after made =
+    (after ≡ before) × ReportsDiscard port discard made
+DecidesOnPacket windows port policy p None before after made =
+    DecidesOnCommand port policy (command_of p) (header_check (command_of p) windows) before after made
 
 -- memory was refused, and nothing printed
 abbrev pub IsMemoryRefused : (old new : Option (List ℕ)) → LineEnd → Type 0

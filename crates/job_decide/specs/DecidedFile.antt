@@ -1,10 +1,9 @@
 -- What the job `decide` reads and prints.
-use Rattle.std.specs.Prelude.{◌≡◌, ◌⊎◌, ℕ, List, [], Option, Some, replicate, string_bytes}
-use Rattle.std.specs.Borrow.{Bor}
+use Rattle.std.specs.Prelude.{◌≡◌, ◌⊎◌, ℕ, List, [], Option, Some, None, replicate, string_bytes}
+use Rattle.std.specs.Io.KnownBytes.{Appends}
 use Rattle.std.specs.Str.{IsUtf8}
 use Rattle.policy_table.specs.Policies.{PolicyValue}
 use Rattle.policy_table.specs.declared.text_faults.TextFault.{TextFault}
-use Rattle.rmap.specs.Windows.{WindowsValue}
 use Rattle.spw.specs.Line.{lines_of}
 use Rattle.job_parts.specs.Files.{ReadsFile}
 use Rattle.job_parts.specs.Reading.{TextUnread}
@@ -14,16 +13,19 @@ use Rattle.job_parts.specs.declared.faults.Fault.TheVariants.{NoMemory}
 use Rattle.job_parts.specs.declared.status.ExitStatus.{ExitStatus}
 use Rattle.job_parts.specs.declared.status.ExitStatus.TheVariants.{Done, Failed, Misused}
 use Rattle.job_decide.specs.DecidedLines.{DecidesLine, IsBadDecideLine}
+use Rattle.job_decide.specs.Decisions.{decision_texts}
 use Rattle.job_decide.specs.Tables.{HoldsTableWithFault, HoldsSoundTable, PrintsTableFault}
+use Rattle.job_decide.specs.declared.decide.DecideEnd.{DecideEnd}
 use Rattle.job_decide.specs.declared.decide.DecideWords.{DecideWords}
 use Rattle.job_decide.specs.declared.decide.Deciding.{Deciding}
 use Rattle.job_decide.specs.declared.tables.NoTable.{NoTable}
 use Rattle.job_decide.specs.declared.tables.NoTable.TheVariants.{BadTable, Ended}
 
--- what decides by this table before the first line: no port holds anything, and no ticket was drawn
-abbrev pub at_first : PolicyValue → (ports : ℕ) → Bor WindowsValue → Deciding
-at_first policy ports windows =
-    record { table = policy; feeds = replicate ports []; counts = replicate 2048 0; windows = windows }
+-- before the first line: no port holds anything, no ticket was drawn, and nothing was decided
+pub record IsAtFirst (ports : ℕ) (deciding : Deciding) : Type 0 where
+  pub feeds : deciding.feeds ≡ replicate ports []
+  pub counts : deciding.counts ≡ replicate 2048 0
+  pub decisions : deciding.decisions.items ≡ []
 
 module _ {S : Type 0} (reads : ReadsFile S) (words : DecideWords) where
   -- the file of lines was read, and is UTF-8
@@ -40,7 +42,7 @@ module _ {S : Type 0} (reads : ReadsFile S) (words : DecideWords) where
   -- the same, with what decides by the table before the first line
   pub record IsReadyToDecide (before : S) (text : List ℕ) (deciding : Deciding) (after : S) : Type 0 where
     pub given : IsGiven before text deciding.table after
-    pub first : deciding ≡ at_first deciding.table words.ports deciding.windows
+    pub first : IsAtFirst words.ports deciding
     pub windows : deciding.windows.now ≡ words.windows
 
   -- the file of the table was read after that of the lines, and this is the first fault of the table, with its place
@@ -76,13 +78,16 @@ module _ {S : Type 0} (reads : ReadsFile S) (words : DecideWords) where
   IsUnready before after (Ended fault) = AreInputsUnread before after fault
   IsUnready before after (BadTable fault) = HoldsTableFault before after fault
 
-  -- each line of the file was taken in turn
-  pub record DecidesFile (before after : S) (old new : Option (List ℕ)) : Type 0 where
+  -- each line of the file was taken in turn. The job gives the decisions on its packets, in order, and it printed their
+  -- lines
+  pub record DecidesFile (before after : S) (old new : Option (List ℕ)) (end : DecideEnd) : Type 0 where
     pub text : List ℕ
     pub first : Deciding
     pub ready : IsReadyToDecide before text first after
     pub left : Deciding
     pub all : AreTaken DecidesLine (lines_of text) first left old new
+    pub are_given : end.decisions ≡ Some left.decisions
+    pub printed : Appends old new (decision_texts left.decisions.items)
 
   -- each line up to one was taken in turn, and that one is bad
   pub record StopsFile (before after : S) (old new : Option (List ℕ)) (fault : Fault) : Type 0 where
@@ -103,9 +108,13 @@ module _ {S : Type 0} (reads : ReadsFile S) (words : DecideWords) where
     pub held : HoldsTableFault before after fault
     pub reported : PrintsTableFault fault old new
 
-  -- what `decide` reads and prints if no fault ends it, by its exit status: 0 if all lines were taken, 1 if the table
-  -- has a fault
-  abbrev pub DecidesJob : (before after : S) → (old new : Option (List ℕ)) → ExitStatus → Type 0
-  DecidesJob before after old new Done = DecidesFile before after old new
-  DecidesJob before after old new Failed = PrintsDecideFault before after old new
-  DecidesJob before after old new Misused = ⊥
+  -- what `decide` reads, prints and gives, by its exit status: 0 if all lines were taken; 1 if the table has a fault, and
+  -- then there are no decisions
+  abbrev pub DecidesAs : (before after : S) → (old new : Option (List ℕ)) → DecideEnd → ExitStatus → Type 0
+  DecidesAs before after old new end Done = DecidesFile before after old new end
+  DecidesAs before after old new end Failed = (end.decisions ≡ None) × PrintsDecideFault before after old new
+  DecidesAs before after old new end Misused = ⊥
+
+  -- the same of an end that no fault is
+  abbrev pub DecidesJob : (before after : S) → (old new : Option (List ℕ)) → DecideEnd → Type 0
+  DecidesJob before after old new end = DecidesAs before after old new end end.status

@@ -1,17 +1,20 @@
 //! The job `decide`.
 
-ghost use Rattle.std.specs.Prelude.{◌≡◌, IfErr, IfOk, false, string_bytes, None, Some};
+ghost use Rattle.std.specs.Prelude.{◌≡◌, IfErr, IfOk, OnOk, false, string_bytes, None, Some};
 ghost use Rattle.clap.specs.Simple.{app_of};
 ghost use Rattle.clap.specs.declared.builder.command.Command.TheViews.{out-Command as fields_of};
 ghost use Rattle.clap.specs.Walk.{rows_of};
 ghost use Rattle.clap.specs.Matches.{found_of};
 ghost use Rattle.job_parts.specs.Stops.{StopsBy};
+ghost use Rattle.job_parts.specs.Turns.{AreTaken, StopsInLines};
+ghost use Rattle.spw.specs.Line.{lines_of};
 ghost use Rattle.job_decide.specs.DecideJob.{NamesDecide, RefusesDecide, decide_app};
 ghost use Rattle.job_decide.specs.DecidedFile.{DecidesJob, IsNotDecided, IsReadyToDecide, IsUnready};
-ghost use Rattle.job_decide.specs.DecidedLines.{DecidesLine, IsBadDecideLine};
+ghost use Rattle.job_decide.specs.DecidedLines.{DecidesLine, IsBadDecideLine, PrintsDecided};
 ghost use Rattle.job_parts.specs.Inputs.{AreInputs, input};
 ghost use Rattle.job_parts.specs.declared.inputs.Content.TheVariants.{Lines, Table};
 
+use crate::decisions::{PacketDecision, print_and_keep};
 use crate::node_windows::own_windows;
 use crate::packets::decide_packet;
 use crate::tables::{NoTable, print_table_fault, table_in};
@@ -45,6 +48,15 @@ pub struct DecideWords {
     pub ports: u8,
     /// The address of the node, and where its banks are.
     pub windows: Windows,
+}
+
+/// How the job `decide` ended.
+#[derive(Debug, Drop)]
+pub struct DecideEnd {
+    /// The exit status.
+    pub status: ExitStatus,
+    /// What was decided on each packet, in order, if all lines were taken. What was printed are their lines.
+    pub decisions: Option<Vec<PacketDecision>>,
 }
 
 impl DecideWords {
@@ -108,13 +120,14 @@ pub fn decide_job(alloc: Global, found: &ArgMatches) -> Result<DecideWords, Usag
 }
 
 /// What decides on packet lines by a table: the table, and what each port has of a packet that has not ended. Besides,
-/// how many tickets were drawn, and where the node's banks are.
+/// how many tickets were drawn, where the node's banks are, and what was decided so far.
 #[derive(Drop)]
 struct Deciding<'a> {
     table: Policy,
     feeds: Feeds,
     counts: Counts,
     windows: &'a Windows,
+    decisions: Vec<PacketDecision>,
 }
 
 impl TakesLines for Deciding<'_> {
@@ -122,20 +135,20 @@ impl TakesLines for Deciding<'_> {
 
     ghost stops = { IsBadDecideLine };
 
-    /// Takes one line, and decides on the packet that it ends.
+    /// Takes one line, and decides on the packet that it ends. It prints the decision, and keeps it.
     fn take<W: Write>(&mut self, alloc: Global, line: &str, out: &mut W) -> Result<(), LineStop> {
         let Some((port, packet)) = self.feeds.take_line(alloc, line)? else {
             return Ok(());
         };
-        decide_packet(
+        let made = decide_packet(
             alloc,
             self.windows,
             &self.table,
             &mut self.counts,
             port,
             &packet,
-            out,
-        )
+        )?;
+        print_and_keep(&mut self.decisions, made, out)
     }
 }
 
@@ -158,13 +171,31 @@ fn ready<'a, F: Files>(
         feeds,
         counts,
         windows: &words.windows,
+        decisions: Vec::new(alloc),
     };
     Ok((text, deciding))
 }
 
+/// Takes each line in turn.
+fn decide_lines<'a, W: Write>(
+    alloc: Global,
+    deciding: &mut Deciding<'_>,
+    text: &str,
+    out: &mut W,
+) -> Result<(), JobStop<'a>>
+    ensures taken { OnOk result (AreTaken DecidesLine (lines_of text.now) deciding.old deciding.new
+        (W.contents out.old) (W.contents out.new)) }
+    ensures printed { OnOk result (PrintsDecided deciding.old.decisions.items deciding.new.decisions.items
+        (W.contents out.old) (W.contents out.new)) }
+    ensures stops { IfErr result (StopsBy (StopsInLines DecidesLine IsBadDecideLine (lines_of text.now)
+        deciding.old deciding.new (W.contents out.old) (W.contents out.new))) }
+{
+    take_lines(alloc, deciding, text, out)
+}
+
 /// Decides on the packets of a file by the table of another, for a node with these maps, ports and windows. For each
-/// packet it prints what becomes of it, as docs/COMMANDS.md has it. If the table has a fault, it prints that with its
-/// place, and the job failed.
+/// packet it prints what becomes of it, as docs/COMMANDS.md has it, and it gives these decisions. If the table has a
+/// fault, it prints that with its place, and the job failed.
 ///
 /// # Errors
 ///
@@ -175,7 +206,7 @@ pub fn decide_file<'a, F: Files, W: Write>(
     words: &'a DecideWords,
     files: &mut F,
     out: &mut W,
-) -> Result<ExitStatus, JobStop<'a>>
+) -> Result<DecideEnd, JobStop<'a>>
     ensures done { IfOk result (DecidesJob F.reads words.now files.old files.new
         (W.contents out.old) (W.contents out.new)) }
     ensures stops { IfErr result (StopsBy (IsNotDecided F.reads words.now files.old files.new
@@ -183,13 +214,19 @@ pub fn decide_file<'a, F: Files, W: Write>(
 {
     match ready(alloc, words, files) {
         Ok((text, mut deciding)) => {
-            take_lines(alloc, &mut deciding, text.as_str(), out)?;
-            Ok(ExitStatus::Done)
+            decide_lines(alloc, &mut deciding, text.as_str(), out)?;
+            Ok(DecideEnd {
+                status: ExitStatus::Done,
+                decisions: Some(deciding.decisions),
+            })
         }
         Err(NoTable::Ended(fault)) => Err(JobStop::Ended(fault)),
         Err(NoTable::BadTable(fault)) => {
             print_table_fault(out, &fault)?;
-            Ok(ExitStatus::Failed)
+            Ok(DecideEnd {
+                status: ExitStatus::Failed,
+                decisions: None,
+            })
         }
     }
 }

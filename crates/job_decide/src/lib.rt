@@ -2,6 +2,7 @@
 #![tactic(auto)]
 
 pub mod decide;
+pub mod decisions;
 pub mod node_windows;
 mod packets;
 mod reasons;

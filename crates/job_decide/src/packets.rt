@@ -1,51 +1,73 @@
-//! What is printed of a packet.
+//! What is decided on a packet.
 
-ghost use Rattle.std.specs.Prelude.{◌≡◌, IfErr, IfOk, OnOk, option_map};
+ghost use Rattle.std.specs.Prelude.{◌≡◌, ◌++◌, IfOk, OnOk, codes, decimal, option_map, string_bytes};
 ghost use Rattle.machine.specs.Memory.{header};
 ghost use Rattle.policy_table.specs.PortTables.{lines_at};
 ghost use Rattle.policy_table.specs.Ports.{rules_at};
-ghost use Rattle.job_parts.specs.Printed.{PrintsMore, Prints};
-ghost use Rattle.job_parts.specs.Stops.{StopsLineBy};
-ghost use Rattle.job_decide.specs.Decided.{IsMemoryRefused, PrintsCommand, PrintsDecision, PrintsMatch, PrintsPacket, PrintsStatus, reported_passed};
-ghost use Rattle.job_decide.specs.DecideJob.{match_line, rule_text, ticket_text};
+ghost use Rattle.job_decide.specs.Decided.{DecidesByPolicy, DecidesOnCommand, DecidesOnPacket, ReportsDiscard, ReportsMatch, ReportsStatus, decided_by, reported_passed};
+ghost use Rattle.job_decide.specs.DecideJob.{match_line, rule_text, status_text, ticket_text};
 ghost use Rattle.job_decide.specs.Tables.{decision_line_of};
-ghost use Rattle.rmap.specs.Checks.{header_check};
+ghost use Rattle.job_nodes.specs.JudgeJob.{discard_line};
+ghost use Rattle.rmap.specs.Checks.{header_check, header_status};
 ghost use Rattle.rmap.specs.Command.{discard_of};
+ghost use Rattle.rmap.specs.Verdict.{verdict_number};
 
+use crate::decisions::{DecidedBy, PacketDecision};
 use crate::reasons::{fault_text, reasons};
 use crate::tables::decision_line_of;
-use job_nodes::judge::print_discard;
-use job_parts::stops::LineStop;
 use machine::Call;
 use policy::{Counts, Match, Passed, Policy, PortRule, Table};
-use rmap::{Command, Status, Verdict, Windows, header_check};
+use rmap::{Command, Discard, HeaderFault, Status, Verdict, Windows, header_check};
 use spw::Packet;
 use std::alloc::{AllocError, Global};
-use std::io::{self, Write};
 
-/// Prints text as it is.
-fn print_more<W: Write>(out: &mut W, text: &str) -> io::Result<()>
-    ensures { OnOk result (PrintsMore (W.contents out.old) (W.contents out.new)) }
-{
-    write!(out, "{text}")
-}
-
-/// Prints that a check of its header answers a command: `PORT answered S: `, and the reason.
-fn print_answered<W: Write>(out: &mut W, port: u8, status: Status, reason: &str) -> io::Result<()>
-    ensures { OnOk result (PrintsStatus port status (W.contents out.old) (W.contents out.new)) }
+/// Adds the line of a packet that a check of its header answers: `PORT answered S: `, and the reason.
+fn add_answered(text: &mut String, port: u8, status: Status, reason: &str) -> Result<(), AllocError>
+    ensures { OnOk result (string_bytes text.new
+        ≡ string_bytes text.old ++ (status_text port status ++ reason.now)) }
 {
     let code = status.code();
-    write!(out, "{port} answered {code}: ")?;
-    print_more(out, reason)
+    write!(text, "{port} answered {code}: {reason}")
 }
 
-/// Prints the port, and the line of the rule that decides.
-fn print_rule<W: Write>(out: &mut W, port: u8, line: Option<usize>) -> io::Result<()>
-    ensures { OnOk result (Prints W.contents out.old out.new (rule_text port line)) }
+/// The line of a packet that a check of its header answers.
+fn answered_text(
+    alloc: Global,
+    port: u8,
+    status: Status,
+    reason: &str,
+) -> Result<String, AllocError>
+    ensures { IfOk result (λ text. string_bytes text ≡ status_text port status ++ reason.now) }
+{
+    let mut text = String::new(alloc);
+    add_answered(&mut text, port, status, reason)?;
+    Ok(text)
+}
+
+/// Adds the line of a packet that is discarded: `PORT discard C`.
+fn add_discard(text: &mut String, port: u8, discard: Discard) -> Result<(), AllocError>
+    ensures { OnOk result (string_bytes text.new ≡ string_bytes text.old ++ discard_line port discard) }
+{
+    let code = discard.code();
+    writeln!(text, "{port} discard {code}")
+}
+
+/// The line of a packet that is discarded.
+fn discard_text(alloc: Global, port: u8, discard: Discard) -> Result<String, AllocError>
+    ensures { IfOk result (λ text. string_bytes text ≡ discard_line port discard) }
+{
+    let mut text = String::new(alloc);
+    add_discard(&mut text, port, discard)?;
+    Ok(text)
+}
+
+/// Adds the port, and the line of the rule that decides.
+fn add_rule(text: &mut String, port: u8, line: Option<usize>) -> Result<(), AllocError>
+    ensures { OnOk result (string_bytes text.new ≡ string_bytes text.old ++ rule_text port line) }
 {
     match line {
-        Some(line) => write!(out, "{port} rule {line}"),
-        None => write!(out, "{port} no rule"),
+        Some(line) => write!(text, "{port} rule {line}"),
+        None => write!(text, "{port} no rule"),
     }
 }
 
@@ -59,25 +81,69 @@ fn line_in(lines: &[usize], number: Option<usize>) -> Option<usize>
     }
 }
 
-/// Prints the ticket of the rule that decides, if it has one.
-fn print_ticket<W: Write>(out: &mut W, ticket: Option<Call>) -> io::Result<()>
-    ensures { OnOk result (Prints W.contents out.old out.new (ticket_text ticket)) }
+/// Adds the ticket of the rule that decides, if it has one, and ends the line.
+fn add_ticket(text: &mut String, ticket: Option<Call>) -> Result<(), AllocError>
+    ensures { OnOk result (string_bytes text.new ≡ string_bytes text.old ++ ticket_text ticket) }
 {
     let Some(call) = ticket else {
-        return writeln!(out);
+        return writeln!(text);
     };
     let (answer, map, cell) = (call.answer, call.question.map, call.question.key);
-    writeln!(out, ", ticket {answer} of {map}:{cell}")
+    writeln!(text, ", ticket {answer} of {map}:{cell}")
 }
 
-/// Prints which rule decides: `PORT rule N verdict V`, with its line as N, and the ticket that it drew.
-fn print_match<W: Write>(out: &mut W, port: u8, lines: &[usize], found: Match) -> io::Result<()>
-    ensures { OnOk result (Prints W.contents out.old out.new (match_line port lines.now found)) }
+/// Adds the verdict after the rule that decides.
+fn add_verdict(text: &mut String, verdict: Verdict) -> Result<(), AllocError>
+    ensures { OnOk result (string_bytes text.new
+        ≡ string_bytes text.old ++ (codes " verdict " ++ decimal (verdict_number verdict))) }
 {
-    print_rule(out, port, line_in(lines, found.rule))?;
-    let verdict = found.verdict.number();
-    write!(out, " verdict {verdict}")?;
-    print_ticket(out, found.ticket)
+    let number = verdict.number();
+    write!(text, " verdict {number}")
+}
+
+/// Which rule decides: `PORT rule N verdict V`, with its line as N, and the ticket that it drew.
+fn match_text(
+    alloc: Global,
+    port: u8,
+    lines: &[usize],
+    found: Match,
+) -> Result<String, AllocError>
+    ensures { IfOk result (λ text. string_bytes text ≡ match_line port lines.now found) }
+{
+    let mut text = String::new(alloc);
+    add_rule(&mut text, port, line_in(lines, found.rule))?;
+    add_verdict(&mut text, found.verdict)?;
+    add_ticket(&mut text, found.ticket)?;
+    Ok(text)
+}
+
+/// What decides, if the table does.
+fn decided_by(lines: &[usize], found: Match) -> DecidedBy
+    ensures { result ≡ decided_by lines.now found }
+{
+    DecidedBy::Table {
+        line: line_in(lines, found.rule),
+        verdict: found.verdict,
+    }
+}
+
+/// The decision by what the table of a port finds. `why` are the lines below its own.
+fn match_decision(
+    alloc: Global,
+    port: u8,
+    lines: &[usize],
+    found: Match,
+    why: String,
+) -> Result<PacketDecision, AllocError>
+    ensures { IfOk result (ReportsMatch port lines.now found) }
+{
+    let line = match_text(alloc, port, lines, found)?;
+    Ok(PacketDecision {
+        port,
+        by: decided_by(lines, found),
+        line,
+        why,
+    })
 }
 
 /// Why the rules before the one that decides do not match, if that one refuses. If it does not refuse, there is nothing
@@ -134,17 +200,14 @@ struct PortPolicy<'a> {
     port: u8,
 }
 
-/// Decides on a command that no check of its header answers, and prints by which rule, and why by no rule before.
-fn decide_admitted<W: Write>(
+/// Decides on a command that no check of its header answers: by which rule, and why by no rule before.
+fn decide_admitted(
     alloc: Global,
     at: PortPolicy<'_>,
     counts: &mut Counts,
     command: &Command,
-    out: &mut W,
-) -> Result<(), LineStop>
-    ensures reported { OnOk result (PrintsDecision at.entry.port at.entry.policy.now command.now counts.old counts.new
-        (W.contents out.old) (W.contents out.new)) }
-    ensures stops { IfErr result (StopsLineBy (IsMemoryRefused (W.contents out.old) (W.contents out.new))) }
+) -> Result<PacketDecision, AllocError>
+    ensures { IfOk result (DecidesByPolicy at.entry.port at.entry.policy.now command.now counts.old counts.new) }
 {
     let (front, tail) = (command.front(), command.tail());
     let PortPolicy { policy, port } = at;
@@ -159,57 +222,73 @@ fn decide_admitted<W: Write>(
         found.verdict,
         passed.as_slice(),
     )?;
-    print_match(out, port, lines.as_slice(), found)?;
-    Ok(print_more(out, why.as_str())?)
+    match_decision(alloc, port, lines.as_slice(), found, why)
 }
 
-/// Prints the status of a command, if a check of its header answers it. Else it decides on the command.
-fn decide_on<W: Write>(
+/// The decision of a check of the header on a command.
+fn fault_decision(alloc: Global, port: u8, fault: HeaderFault) -> Result<PacketDecision, AllocError>
+    ensures { IfOk result (ReportsStatus port (header_status fault)) }
+{
+    let reason = fault_text(alloc, fault)?;
+    let status = fault.status();
+    Ok(PacketDecision {
+        port,
+        by: DecidedBy::Header(status),
+        line: answered_text(alloc, port, status, reason.as_str())?,
+        why: String::new(alloc),
+    })
+}
+
+/// The decision on a packet that is discarded.
+fn discard_decision(alloc: Global, port: u8, discard: Discard) -> Result<PacketDecision, AllocError>
+    ensures { IfOk result (ReportsDiscard port discard) }
+{
+    Ok(PacketDecision {
+        port,
+        by: DecidedBy::Discarded(discard),
+        line: discard_text(alloc, port, discard)?,
+        why: String::new(alloc),
+    })
+}
+
+/// Decides on a command: by a check of its header, if one answers it, and else by the table.
+fn decide_on(
     alloc: Global,
     windows: &Windows,
     at: PortPolicy<'_>,
     counts: &mut Counts,
     command: &Command,
-    out: &mut W,
-) -> Result<(), LineStop>
-    ensures reported { OnOk result (PrintsCommand at.entry.port at.entry.policy.now command.now
-        (header_check command.now windows.now) counts.old counts.new
-        (W.contents out.old) (W.contents out.new)) }
-    ensures stops { IfErr result (StopsLineBy (IsMemoryRefused (W.contents out.old) (W.contents out.new))) }
+) -> Result<PacketDecision, AllocError>
+    ensures { IfOk result (DecidesOnCommand at.entry.port at.entry.policy.now command.now
+        (header_check command.now windows.now) counts.old counts.new) }
 {
     match header_check(command, windows) {
-        Ok(_place) => decide_admitted(alloc, at, counts, command, out),
-        Err(fault) => {
-            let why = fault_text(alloc, fault)?;
-            Ok(print_answered(out, at.port, fault.status(), why.as_str())?)
-        }
+        Ok(_place) => decide_admitted(alloc, at, counts, command),
+        Err(fault) => fault_decision(alloc, at.port, fault),
     }
 }
 
-/// Decides on a packet at its port, for a node with these windows, and prints what comes of it.
+/// Decides on a packet at its port, for a node with these windows.
 ///
 /// # Errors
 ///
-/// Memory was refused, and nothing was printed; or the writer failed.
-pub fn decide_packet<W: Write>(
+/// An error if memory is refused.
+pub fn decide_packet(
     alloc: Global,
     windows: &Windows,
     policy: &Policy,
     counts: &mut Counts,
     port: u8,
     packet: &Packet,
-    out: &mut W,
-) -> Result<(), LineStop>
-    ensures reported { OnOk result (PrintsPacket windows.now port policy.now packet.now
-        (discard_of packet.now.bytes)
-        counts.old counts.new (W.contents out.old) (W.contents out.new)) }
-    ensures stops { IfErr result (StopsLineBy (IsMemoryRefused (W.contents out.old) (W.contents out.new))) }
+) -> Result<PacketDecision, AllocError>
+    ensures { IfOk result (DecidesOnPacket windows.now port policy.now packet.now
+        (discard_of packet.now.bytes) counts.old counts.new) }
 {
     match Command::view(packet) {
         Ok(command) => {
             let at = PortPolicy { policy, port };
-            decide_on(alloc, windows, at, counts, &command, out)
+            decide_on(alloc, windows, at, counts, &command)
         }
-        Err(discard) => Ok(print_discard(out, port, discard)?),
+        Err(discard) => discard_decision(alloc, port, discard),
     }
 }

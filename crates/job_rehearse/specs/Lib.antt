@@ -8,6 +8,8 @@ pub mod Loads
 pub mod Places
 pub mod Again
 pub mod Judging
+pub mod Passings
+pub mod LoaderRows
 pub mod OpenPorts
 pub mod TableLoads
 pub mod RehearseJob

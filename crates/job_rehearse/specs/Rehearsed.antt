@@ -1,5 +1,5 @@
 -- What the job `rehearse` reads and prints.
-use Rattle.std.specs.Prelude.{◌≡◌, ◌⊎◌, ℕ, true, false, List, [], ◌∷◌, ◌++◌, Option, Some, None, codes}
+use Rattle.std.specs.Prelude.{◌≡◌, ◌⊎◌, ℕ, true, false, List, [], ◌∷◌, ◌++◌, Option, Some, None, codes, length}
 use Rattle.std.specs.Borrow.{Bor}
 use Rattle.std.specs.Io.KnownBytes.{Appends}
 use Rattle.machine.specs.Sizes.{Maps}
@@ -11,10 +11,13 @@ use Rattle.job_parts.specs.declared.status.ExitStatus.{ExitStatus}
 use Rattle.job_parts.specs.declared.status.ExitStatus.TheVariants.{Done, Failed, Misused}
 use Rattle.job_rehearse.specs.Loaders.{loader_text}
 use Rattle.job_rehearse.specs.Loads.{Loads, StopsLoad}
-use Rattle.job_rehearse.specs.OpenPorts.{PrintsAskers}
+use Rattle.job_rehearse.specs.LoaderRows.{rows_text}
+use Rattle.job_rehearse.specs.OpenPorts.{AreLoaderRows}
 use Rattle.job_rehearse.specs.Places.{HoldsNoPlace, HoldsPlace, IsBegunAt, has_port, loaded_at, loader_on, sizes_at}
 use Rattle.job_parts.specs.TwoFiles.{PrintsNamedFault}
 use Rattle.job_rehearse.specs.Policies.{HoldsAsked, HoldsBoth, HoldsNotAsked, HoldsNotBoth}
+use Rattle.job_rehearse.specs.declared.loader_rows.LoaderRow.{LoaderRow}
+use Rattle.job_rehearse.specs.declared.loader_rows.LoaderRows.{LoaderRows}
 use Rattle.job_rehearse.specs.declared.loads.LoadEnd.{LoadEnd}
 use Rattle.job_rehearse.specs.declared.loads.LoadEnd.TheVariants.{InPart, Loaded, LockedOut, NotLoaded}
 use Rattle.job_rehearse.specs.declared.loaders.LoadSender.{LoadSender}
@@ -26,6 +29,7 @@ use Rattle.job_rehearse.specs.declared.policies.ComparedPolicies.{ComparedPolici
 use Rattle.job_rehearse.specs.declared.policies.NoPolicy.{NoPolicy}
 use Rattle.job_rehearse.specs.declared.policies.NoPolicy.TheVariants.{BadTable, Ended}
 use Rattle.job_rehearse.specs.declared.policies.Policies.{Policies}
+use Rattle.job_rehearse.specs.declared.rehearse.RehearseEnd.{RehearseEnd}
 use Rattle.job_rehearse.specs.declared.rehearse.RehearseWords.{RehearseWords}
 use Rattle.job_rehearse.specs.declared.steps.Rehearsing.{Rehearsing}
 
@@ -43,11 +47,16 @@ back_line InPart = (codes "NEW locks loads out", Failed)
 back_line LockedOut = (codes "NEW locks loads out", Failed)
 back_line NotLoaded = (codes "OLD is not loaded", Failed)
 
--- what is printed of whose loads the new policy lets pass, if these are their lines, and the exit status: 0 if it lets
--- some pass
-abbrev pub any_end : (lines : List ℕ) → List ℕ × ExitStatus
-any_end [] = (codes "loads by nobody" ++ 10 ∷ [], Failed)
-any_end (code ∷ lines) = (code ∷ lines, Done)
+-- what is printed of whose loads the new policy lets pass, if these are the rows of them: a line for each row, or that
+-- nobody loads
+abbrev pub any_text : List LoaderRow → List ℕ
+any_text [] = codes "loads by nobody" ++ 10 ∷ []
+any_text (row ∷ rows) = rows_text (codes "loads") (row ∷ rows)
+
+-- the exit status after that: 0 if the new policy lets some pass
+abbrev pub any_status : List LoaderRow → ExitStatus
+any_status [] = Failed
+any_status (row ∷ rows) = Done
 
 -- ---- of the loads of one
 
@@ -106,12 +115,15 @@ module _ (place : RehearsalNode) (slots : List ℕ) (named : Option LoadSender) 
 
 -- ---- of the loads of any
 
--- the new policy was asked whose loads of the old one it lets pass at that node, and that was printed
-pub record AsksAny (node : LoadedNode) (asked : ComparedPolicies) (old new : Option (List ℕ)) (status : ExitStatus) : Type 0 where
-  pub lines : List ℕ
-  pub reports : PrintsAskers asked.judge asked.policies.old.items node (codes "loads") asked.askers.items lines
-  pub printed : Appends old new (any_end lines).0
-  pub status_is : status ≡ (any_end lines).1
+-- the new policy was asked whose loads of the old one it lets pass at that node. The job gives the rows of that, with
+-- the size of the old one's image, and it printed these rows
+pub record AsksAny (node : LoadedNode) (asked : ComparedPolicies) (old new : Option (List ℕ)) (end : RehearseEnd) : Type 0 where
+  pub made : LoaderRows
+  pub are_given : end.loaders ≡ Some made
+  pub bytes : made.bytes ≡ length asked.policies.old.items
+  pub rows : AreLoaderRows asked.judge asked.policies.old.items node asked.askers.items made.rows.items
+  pub printed : Appends old new (any_text made.rows.items)
+  pub status_is : end.status ≡ any_status made.rows.items
 
 -- ---- of files
 
@@ -162,34 +174,34 @@ module _ {S : Type 0} (reads : ReadsFile S) (words : RehearseWords) where
       DoesPlaced named before after old new status ⊎ RefusesPort named before after old new status
 
   -- both policies were read, for that node, and the new one was asked
-  pub record AsksBoth (place : RehearsalNode) (before after : S) (old new : Option (List ℕ)) (status : ExitStatus) : Type 0 where
+  pub record AsksBoth (place : RehearsalNode) (before after : S) (old new : Option (List ℕ)) (end : RehearseEnd) : Type 0 where
     pub asked : ComparedPolicies
     pub held : HoldsAsked reads words (sizes_at place) before after asked
-    pub asks : AsksAny (loaded_at place) asked old new status
+    pub asks : AsksAny (loaded_at place) asked old new end
 
   -- what was read and printed of the loads of any if no fault ended it, for that node. The new policy was asked, or a
-  -- table has a fault
-  abbrev pub AsksWith : RehearsalNode → (before after : S) → (old new : Option (List ℕ)) → ExitStatus → Type 0
-  AsksWith place before after old new status =
-      AsksBoth place before after old new status
-      ⊎ PrintsFaultyTable (HoldsNotAsked reads words (sizes_at place) before after) old new status
+  -- table has a fault, and there are no rows
+  abbrev pub AsksWith : RehearsalNode → (before after : S) → (old new : Option (List ℕ)) → RehearseEnd → Type 0
+  AsksWith place before after old new end =
+      AsksBoth place before after old new end
+      ⊎ ((end.loaders ≡ None) × PrintsFaultyTable (HoldsNotAsked reads words (sizes_at place) before after) old new end.status)
 
   -- the same for the node of the words
-  pub record DoesAny (before after : S) (old new : Option (List ℕ)) (status : ExitStatus) : Type 0 where
+  pub record DoesAny (before after : S) (old new : Option (List ℕ)) (end : RehearseEnd) : Type 0 where
     pub place : RehearsalNode
     pub between : S
     pub placed : HoldsPlace reads words.place before place between
-    pub does : AsksWith place between after old new status
+    pub does : AsksWith place between after old new end
 
-  -- what was read and printed if no fault ended it, by whose loads are rehearsed
-  abbrev pub DoesRehearsal : Loaders → (before after : S) → (old new : Option (List ℕ)) → ExitStatus → Type 0
-  DoesRehearsal (One named) before after old new status = DoesOne named before after old new status
-  DoesRehearsal Any before after old new status = DoesAny before after old new status
+  -- what was read and printed if no fault ended it, by whose loads are rehearsed; of the loads of one there are no rows
+  abbrev pub DoesRehearsal : Loaders → (before after : S) → (old new : Option (List ℕ)) → RehearseEnd → Type 0
+  DoesRehearsal (One named) before after old new end = (end.loaders ≡ None) × DoesOne named before after old new end.status
+  DoesRehearsal Any before after old new end = DoesAny before after old new end
 
-  -- what `rehearse` reads and prints if no fault ends it, with its exit status. It is 0 if the new policy is loaded and
+  -- what `rehearse` reads, prints and gives if no fault ends it. Its exit status is 0 if the new policy is loaded and
   -- lets the old one be loaded again, or if it lets somebody load it, else 1
-  abbrev pub RehearsesFile : (before after : S) → (old new : Option (List ℕ)) → ExitStatus → Type 0
-  RehearsesFile before after old new status = DoesRehearsal words.loaders before after old new status
+  abbrev pub RehearsesFile : (before after : S) → (old new : Option (List ℕ)) → RehearseEnd → Type 0
+  RehearsesFile before after old new end = DoesRehearsal words.loaders before after old new end
 
   -- a fault ended the rehearsal of both policies at that node
   pub record StopsBoth (place : RehearsalNode) (named : Option LoadSender) (before after : S) (old new : Option (List ℕ))

@@ -11,7 +11,8 @@ use Rattle.spw.specs.Line.{lines_of}
 use Rattle.job_config.specs.declared.own_node.TheConstants.{NODE_ADDRESS}
 use Rattle.job_rehearse.specs.Askers.{table_askers}
 use Rattle.job_rehearse.specs.Judging.{IsPassing}
-use Rattle.job_rehearse.specs.OpenPorts.{PrintsAskers, is_kind}
+use Rattle.job_rehearse.specs.OpenPorts.{PrintsAskers}
+use Rattle.job_rehearse.specs.Passings.{is_kind}
 use Rattle.job_rehearse.specs.declared.loaders.LoadSender.{LoadSender}
 use Rattle.job_rehearse.specs.declared.open_ports.LoadedNode.{LoadedNode}
 use Rattle.job_rehearse.specs.declared.passing.Passing.{Passing}

@@ -4,6 +4,7 @@
 pub mod again;
 pub mod askers;
 mod judging;
+pub mod loader_rows;
 pub mod loaders;
 mod loads;
 pub mod open_ports;

@@ -1,12 +1,13 @@
 //! Whose loads a program lets pass, and at which ports of a node.
 
-ghost use Rattle.std.specs.Prelude.{◌≡◌, ◌≤◌, ◌<◌, ◌+◌, ◌++◌, IfOk, OnOk, if◌then◌else◌, length, string_bytes};
+ghost use Rattle.std.specs.Prelude.{◌≡◌, ◌≤◌, ◌<◌, ◌+◌, IfOk, OnOk, if◌then◌else◌, length, string_bytes};
 ghost use Rattle.rmap.specs.declared.boot.TheConstants.{STAGING_SIZE};
-ghost use Rattle.job_rehearse.specs.OpenPorts.{AreOpen, IsAskerAt, PassesAt, PrintsAsker, PrintsAskers, PrintsFirstAskers, PrintsPlace, port_answer_at, ends_run, is_port_open, run_line, with_end, with_kinds, with_runs};
+ghost use Rattle.job_rehearse.specs.OpenPorts.{AddsAsker, AddsFirstAskers, AddsPlace, AreLoaderRows, AreOpen, IsAskerAt, PassesAt, PrintsAskers, port_answer_at, ends_run, is_port_open, with_end, with_kinds, with_runs};
 
-use crate::askers::{LoadInitiator, asker_text};
+use crate::askers::LoadInitiator;
+use crate::loader_rows::{LoaderRow, rows_text};
 use crate::loaders::LoadSender;
-use crate::passing::{Passing, is_kind, kind_words, loader_passing};
+use crate::passing::{Passing, is_kind, loader_passing};
 use bver::Accepted;
 use std::alloc::{AllocError, Global};
 
@@ -82,36 +83,24 @@ fn ends_run(answers: &[Passing], kind: Passing, port: u8) -> bool
         && !is_port_open(answers, kind, usize::from(port) + 1)
 }
 
-/// Adds the line of a run of ports.
-fn add_run(
-    text: &mut String,
-    lead: &str,
-    words: &str,
-    more: &str,
-    first: u8,
-    last: u8,
-) -> Result<(), AllocError>
-    ensures { OnOk result (string_bytes text.new
-        ≡ string_bytes text.old ++ run_line lead.now words.now more.now first last) }
-{
-    writeln!(text, "{lead} by port {first}-{last}{words}{more}")
-}
-
-/// Adds the line of the run that ends at a port, if one does.
+/// Adds the row of the run that ends at a port, if one does.
 fn add_end(
-    text: &mut String,
+    rows: &mut Vec<LoaderRow>,
     answers: &[Passing],
     kind: Passing,
-    lead: &str,
-    words: &str,
+    asker: LoadInitiator,
     first: u8,
     port: u8,
 ) -> Result<(), AllocError>
-    ensures { OnOk result (string_bytes text.new
-        ≡ with_end (string_bytes text.old) answers.now kind lead.now words.now first port) }
+    ensures { OnOk result (rows.new.items ≡ with_end rows.old.items answers.now kind asker first port) }
 {
     if ends_run(answers, kind, port) {
-        add_run(text, lead, words, kind_words(kind), first, port)?;
+        rows.push(LoaderRow {
+            asker,
+            passing: kind,
+            first,
+            last: port,
+        })?;
     }
     Ok(())
 }
@@ -128,22 +117,20 @@ fn first_after(answers: &[Passing], kind: Passing, first: u8, port: u8) -> u8
     }
 }
 
-/// Adds a line for each run of ports with that answer, of this many ports.
+/// Adds a row for each run of ports with that answer, of this many ports.
 fn add_runs(
-    text: &mut String,
+    rows: &mut Vec<LoaderRow>,
     answers: &[Passing],
     kind: Passing,
-    lead: &str,
-    words: &str,
+    asker: LoadInitiator,
     ports: u8,
 ) -> Result<(), AllocError>
     requires { ports ≤ 32 }
-    ensures { OnOk result (string_bytes text.new
-        ≡ with_runs (string_bytes text.old) answers.now kind lead.now words.now ports) }
+    ensures { OnOk result (rows.new.items ≡ with_runs rows.old.items answers.now kind asker ports) }
 {
     let mut first = 0;
     for port in 0..ports {
-        add_end(text, answers, kind, lead, words, first, port)?;
+        add_end(rows, answers, kind, asker, first, port)?;
         first = first_after(answers, kind, first, port);
     }
     Ok(())
@@ -151,39 +138,34 @@ fn add_runs(
 
 /// Adds the runs of each answer except the last.
 fn add_kinds(
-    text: &mut String,
+    rows: &mut Vec<LoaderRow>,
     answers: &[Passing],
-    lead: &str,
-    words: &str,
+    asker: LoadInitiator,
     ports: u8,
 ) -> Result<(), AllocError>
     requires { ports ≤ 32 }
-    ensures { OnOk result (string_bytes text.new
-        ≡ with_kinds (string_bytes text.old) answers.now lead.now words.now ports) }
+    ensures { OnOk result (rows.new.items ≡ with_kinds rows.old.items answers.now asker ports) }
 {
-    add_runs(text, answers, Passing::Always, lead, words, ports)?;
-    add_runs(text, answers, Passing::UntilSpent, lead, words, ports)?;
-    add_runs(text, answers, Passing::OnceSpent, lead, words, ports)
+    add_runs(rows, answers, Passing::Always, asker, ports)?;
+    add_runs(rows, answers, Passing::UntilSpent, asker, ports)?;
+    add_runs(rows, answers, Passing::OnceSpent, asker, ports)
 }
 
-/// Adds a line for each run of the node's ports at which a program lets the load of an asker pass, in one way.
+/// Adds a row for each run of the node's ports at which a program lets the load of an asker pass, in one way.
 fn add_asker(
-    text: &mut String,
+    rows: &mut Vec<LoaderRow>,
     alloc: Global,
     judge: &Accepted,
     image: &[u8],
     node: LoadedNode,
-    lead: &str,
     asker: LoadInitiator,
 ) -> Result<(), AllocError>
     requires ports { node.ports ≤ 32 }
     requires short { length image.now ≤ STAGING_SIZE }
-    ensures { OnOk result (PrintsAsker judge.now image.now node lead.now asker
-        (string_bytes text.old) (string_bytes text.new)) }
+    ensures { OnOk result (AddsAsker judge.now image.now node asker rows.old.items rows.new.items) }
 {
     let answers = port_answers(alloc, judge, image, node, asker)?;
-    let words = asker_text(alloc, asker)?;
-    add_kinds(text, answers.as_slice(), lead, words.as_str(), node.ports)
+    add_kinds(rows, answers.as_slice(), asker, node.ports)
 }
 
 /// The asker of a place, from 0 on.
@@ -194,52 +176,70 @@ fn asker_at(askers: &[LoadInitiator], place: usize) -> LoadInitiator
     askers[place]
 }
 
-/// Adds a line for each run of the node's ports at which a program lets the load of the asker of a place pass.
+/// Adds a row for each run of the node's ports at which a program lets the load of the asker of a place pass.
 fn add_asker_at(
-    text: &mut String,
+    rows: &mut Vec<LoaderRow>,
     alloc: Global,
     judge: &Accepted,
     image: &[u8],
     node: LoadedNode,
-    lead: &str,
     askers: &[LoadInitiator],
     place: usize,
 ) -> Result<(), AllocError>
     requires ports { node.ports ≤ 32 }
     requires short { length image.now ≤ STAGING_SIZE }
     requires place { place < length askers.now }
-    ensures { OnOk result (PrintsPlace judge.now image.now node lead.now askers.now place
-        (string_bytes text.old) (string_bytes text.new)) }
+    ensures { OnOk result (AddsPlace judge.now image.now node askers.now place rows.old.items rows.new.items) }
 {
     let asker = asker_at(askers, place);
-    add_asker(text, alloc, judge, image, node, lead, asker)
+    add_asker(rows, alloc, judge, image, node, asker)
 }
 
-/// Adds the lines of each asker.
+/// Adds the rows of each asker.
 fn add_askers(
-    text: &mut String,
+    rows: &mut Vec<LoaderRow>,
     alloc: Global,
     judge: &Accepted,
     image: &[u8],
     node: LoadedNode,
-    lead: &str,
     askers: &[LoadInitiator],
 ) -> Result<(), AllocError>
     requires ports { node.ports ≤ 32 }
     requires short { length image.now ≤ STAGING_SIZE }
-    ensures { OnOk result (PrintsFirstAskers judge.now image.now node lead.now askers.now (length askers.now)
-        (string_bytes text.old) (string_bytes text.new)) }
+    ensures { OnOk result (AddsFirstAskers judge.now image.now node askers.now (length askers.now)
+        rows.old.items rows.new.items) }
 {
     for place in 0..askers.len() {
-        add_asker_at(text, alloc, judge, image, node, lead, askers, place)?;
+        add_asker_at(rows, alloc, judge, image, node, askers, place)?;
     }
     Ok(())
 }
 
-/// Whose loads of an image a program in slot 3 lets pass, of these askers. There is a line for each run of the node's
+/// Whose loads of an image a program in slot 3 lets pass, of these askers. There is a row for each run of the node's
 /// ports at which it lets two loads pass, or only the first, or only the second. The first comes on cells that nobody
-/// asked, and the second on cells that are past every quota. Each line begins with `lead`; who is in none of them
-/// cannot load.
+/// asked, and the second on cells that are past every quota. Who is in none of the rows cannot load.
+///
+/// # Errors
+///
+/// An error if memory is refused.
+pub fn loader_rows(
+    alloc: Global,
+    judge: &Accepted,
+    image: &[u8],
+    node: LoadedNode,
+    askers: &[LoadInitiator],
+) -> Result<Vec<LoaderRow>, AllocError>
+    requires ports { node.ports ≤ 32 }
+    requires short { length image.now ≤ STAGING_SIZE }
+    ensures { IfOk result (λ rows.
+        AreLoaderRows judge.now image.now node askers.now rows.items) }
+{
+    let mut rows = Vec::new(alloc);
+    add_askers(&mut rows, alloc, judge, image, node, askers)?;
+    Ok(rows)
+}
+
+/// The lines of the rows of [`loader_rows`], each of which begins with `lead`.
 ///
 /// # Errors
 ///
@@ -257,7 +257,6 @@ pub fn loaders(
     ensures { IfOk result (λ text.
         PrintsAskers judge.now image.now node lead.now askers.now (string_bytes text)) }
 {
-    let mut text = String::new(alloc);
-    add_askers(&mut text, alloc, judge, image, node, lead, askers)?;
-    Ok(text)
+    let rows = loader_rows(alloc, judge, image, node, askers)?;
+    rows_text(alloc, lead, rows.as_slice())
 }

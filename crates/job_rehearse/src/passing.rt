@@ -3,7 +3,7 @@
 ghost use Rattle.std.specs.Prelude.{◌≡◌, ◌≤◌, ◌<◌, IfOk, length};
 ghost use Rattle.rmap.specs.declared.boot.TheConstants.{STAGING_SIZE};
 ghost use Rattle.job_rehearse.specs.Judging.{IsPassing, passing_of};
-ghost use Rattle.job_rehearse.specs.OpenPorts.{is_kind, kind_words, answer_number_of};
+ghost use Rattle.job_rehearse.specs.Passings.{answer_number_of, is_kind, kind_words};
 
 use crate::judging::lets_load;
 use crate::loaders::LoadSender;

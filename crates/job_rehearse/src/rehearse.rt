@@ -14,11 +14,12 @@ ghost use Rattle.job_rehearse.specs.RehearseJob.{GivesSlots, NamesRehearse, Refu
 ghost use Rattle.job_rehearse.specs.Loaders.{loader_text};
 ghost use Rattle.job_rehearse.specs.Places.{first_read, maps_of_words, second_read, sizes_at};
 ghost use Rattle.job_rehearse.specs.declared.policies.NoPolicy.TheVariants.{Ended};
-ghost use Rattle.job_rehearse.specs.Rehearsed.{AsksAny, DoesAny, DoesAt, DoesOne, IsNotRehearsed, IsRehearsalStuck, IsUnasked, IsUndone, IsUndoneAt, Rehearses, RehearsesFile, PrintsFaultyTable, any_end, back_line, there_line};
+ghost use Rattle.job_rehearse.specs.Rehearsed.{AsksAny, DoesAny, DoesAt, DoesOne, IsNotRehearsed, IsRehearsalStuck, IsUnasked, IsUndone, IsUndoneAt, Rehearses, RehearsesFile, PrintsFaultyTable, any_status, any_text, back_line, there_line};
 
+use crate::loader_rows::{LoaderRow, LoaderRows, rows_text};
 use crate::loaders::{LoadSender, Loaders, loader_text, loaders_of};
 use crate::loads::{LoadEnd, LoadOf, load};
-use crate::open_ports::{LoadedNode, loaders};
+use crate::open_ports::{LoadedNode, loader_rows};
 use crate::places::{PlaceWords, RehearsalNode, begun_at, place_in, place_of};
 use crate::policies::{ComparedPolicies, NoPolicy, Policies, asked_in, policies_in};
 use clap::{ArgMatches, Command};
@@ -50,6 +51,15 @@ pub struct RehearseWords {
     pub slots: Vec<u8>,
     /// Whose loads are rehearsed.
     pub loaders: Loaders,
+}
+
+/// How a rehearsal ended.
+#[derive(Debug, Drop)]
+pub struct RehearseEnd {
+    /// The exit status.
+    pub status: ExitStatus,
+    /// Whose loads the new policy lets pass, if it was asked of any: what was printed.
+    pub loaders: Option<LoaderRows>,
 }
 
 impl RehearseWords {
@@ -295,14 +305,25 @@ fn rehearse_one<'a, F: Files, W: Write>(
     rehearse_at(alloc, words, &place, named, files, out)
 }
 
-/// What is printed of whose loads the new policy lets pass, if these are their lines, and the exit status.
-fn any_end(lines: &str) -> (&str, ExitStatus)
-    ensures { (result.0.now, result.1) ≡ any_end lines.now }
+/// What is printed of whose loads the new policy lets pass, if these are the rows of them.
+fn any_text(alloc: Global, rows: &[LoaderRow]) -> Result<String, AllocError>
+    ensures { IfOk result (λ text. string_bytes text ≡ any_text rows.now) }
 {
-    if lines.is_empty() {
-        ("loads by nobody\n", ExitStatus::Failed)
+    if rows.is_empty() {
+        String::from_str(alloc, "loads by nobody\n")
     } else {
-        (lines, ExitStatus::Done)
+        rows_text(alloc, "loads", rows)
+    }
+}
+
+/// The exit status if these are the rows.
+fn any_status(rows: &[LoaderRow]) -> ExitStatus
+    ensures { result ≡ any_status rows.now }
+{
+    if rows.is_empty() {
+        ExitStatus::Failed
+    } else {
+        ExitStatus::Done
     }
 }
 
@@ -312,7 +333,7 @@ fn ask_any<'a, W: Write>(
     node: LoadedNode,
     asked: &ComparedPolicies,
     out: &mut W,
-) -> Result<ExitStatus, JobStop<'a>>
+) -> Result<RehearseEnd, JobStop<'a>>
     requires ports { node.ports ≤ 32 }
     requires short { length asked.now.policies.old.items ≤ STAGING_SIZE }
     ensures done { IfOk result
@@ -321,11 +342,31 @@ fn ask_any<'a, W: Write>(
         (fault ≡ NoMemory) × (W.contents out.new ≡ W.contents out.old))) }
 {
     let image = asked.policies.old.as_slice();
-    let askers = asked.askers.as_slice();
-    let lines = loaders(alloc, &asked.judge, image, node, "loads", askers)?;
-    let (text, status) = any_end(lines.as_str());
-    print_text(out, text)?;
-    Ok(status)
+    let rows = loader_rows(alloc, &asked.judge, image, node, asked.askers.as_slice())?;
+    let text = any_text(alloc, rows.as_slice())?;
+    print_text(out, text.as_str())?;
+    let status = any_status(rows.as_slice());
+    let bytes = image.len();
+    Ok(RehearseEnd {
+        status,
+        loaders: Some(LoaderRows { bytes, rows }),
+    })
+}
+
+/// Prints why there are no policies of which the new one can be asked, as [`report_none`] does. There are no rows then.
+fn report_unasked<'a, W: Write>(none: NoPolicy<'a>, out: &mut W) -> Result<RehearseEnd, JobStop<'a>>
+    ensures reported { IfOk result (λ end. (end.loaders ≡ None) × PrintsFaultyTable (λ it. it ≡ none.entry)
+        (W.contents out.old) (W.contents out.new) end.status) }
+    ensures stops { IfErr result (StopsBy (λ fault.
+        (none.entry ≡ Ended fault) × (W.contents out.new ≡ W.contents out.old))) }
+{
+    match report_none(none, out) {
+        Ok(status) => Ok(RehearseEnd {
+            status,
+            loaders: None,
+        }),
+        Err(stop) => Err(stop),
+    }
 }
 
 /// Asks the new policy whose loads of the old one it lets pass, at the node of the words.
@@ -334,7 +375,7 @@ fn rehearse_any<'a, F: Files, W: Write>(
     words: &'a RehearseWords,
     files: &mut F,
     out: &mut W,
-) -> Result<ExitStatus, JobStop<'a>>
+) -> Result<RehearseEnd, JobStop<'a>>
     ensures done { IfOk result (DoesAny F.reads words.now files.old files.new
         (W.contents out.old) (W.contents out.new)) }
     ensures stops { IfErr result (StopsBy (IsUnasked F.reads words.now files.old files.new
@@ -343,14 +384,36 @@ fn rehearse_any<'a, F: Files, W: Write>(
     let place = place_in(alloc, &words.place, files)?;
     match asked_in(alloc, words, &place.sizes(), files) {
         Ok(asked) => ask_any(alloc, place.loaded(), &asked, out),
-        Err(none) => report_none(none, out),
+        Err(none) => report_unasked(none, out),
+    }
+}
+
+/// Rehearses the load by the one that is named, and the way back. There are no rows of that.
+fn rehearse_named<'a, F: Files, W: Write>(
+    alloc: Global,
+    words: &'a RehearseWords,
+    named: Option<LoadSender>,
+    files: &mut F,
+    out: &mut W,
+) -> Result<RehearseEnd, JobStop<'a>>
+    ensures done { IfOk result (λ end. (end.loaders ≡ None) × DoesOne F.reads words.now named files.old files.new
+        (W.contents out.old) (W.contents out.new) end.status) }
+    ensures stops { IfErr result (StopsBy (IsUndone F.reads words.now named files.old files.new
+        (W.contents out.old) (W.contents out.new))) }
+{
+    match rehearse_one(alloc, words, named, files, out) {
+        Ok(status) => Ok(RehearseEnd {
+            status,
+            loaders: None,
+        }),
+        Err(stop) => Err(stop),
     }
 }
 
 /// Rehearses the load of the policy of a file at a node on which that of another judges, and the way back. It prints
 /// what becomes of each packet of the loads, and whether the way back is open. Or it asks the new policy whose loads of
-/// the old one it lets pass, and loads nothing. If a table has a fault, it prints that with the name of its file and
-/// the place, and the job failed.
+/// the old one it lets pass, and loads nothing; then it prints the rows that it gives. If a table has a fault, it prints
+/// that with the name of its file and the place, and the job failed.
 ///
 /// # Errors
 ///
@@ -362,14 +425,14 @@ pub fn rehearse_file<'a, F: Files, W: Write>(
     words: &'a RehearseWords,
     files: &mut F,
     out: &mut W,
-) -> Result<ExitStatus, JobStop<'a>>
+) -> Result<RehearseEnd, JobStop<'a>>
     ensures done { IfOk result (RehearsesFile F.reads words.now files.old files.new
         (W.contents out.old) (W.contents out.new)) }
     ensures stops { IfErr result (StopsBy (IsNotRehearsed F.reads words.now files.old files.new
         (W.contents out.old) (W.contents out.new))) }
 {
     match words.loaders {
-        Loaders::One(named) => rehearse_one(alloc, words, named, files, out),
+        Loaders::One(named) => rehearse_named(alloc, words, named, files, out),
         Loaders::Any => rehearse_any(alloc, words, files, out),
     }
 }

@@ -5,7 +5,7 @@ ghost use Rattle.std.specs.List.{after_first, before_first};
 ghost use Rattle.policy_table.specs.Policies.{policy_fault};
 ghost use Rattle.rmap.specs.declared.boot.TheConstants.{STAGING_SIZE};
 ghost use Rattle.job_rehearse.specs.Judging.{IsPassing};
-ghost use Rattle.job_rehearse.specs.OpenPorts.{is_kind};
+ghost use Rattle.job_rehearse.specs.Passings.{is_kind};
 ghost use Rattle.job_rehearse.specs.declared.passing.Passing.TheVariants.{Always};
 ghost use Rattle.job_rehearse.specs.TableLoads.{AddsOwn, AsksOf, AsksTable, CanBeMended, DoorsOf, FitsStaging, LetsSixtySeven, Mends, PrintsBoth, PrintsDoors, PrintsLoaders, PrintsLoads, PrintsOf, PrintsPolicy, PrintsClosed, is_feed, lead_of, lead_plain, lines_or_nobody, mended_front, mended_second, mending_words, rehearsed_node_of, sixty_seven};
 
