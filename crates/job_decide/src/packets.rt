@@ -102,12 +102,7 @@ fn add_verdict(text: &mut String, verdict: Verdict) -> Result<(), AllocError>
 }
 
 /// Which rule decides: `PORT rule N verdict V`, with its line as N, and the ticket that it drew.
-fn match_text(
-    alloc: Global,
-    port: u8,
-    lines: &[usize],
-    found: Match,
-) -> Result<String, AllocError>
+fn match_text(alloc: Global, port: u8, lines: &[usize], found: Match) -> Result<String, AllocError>
     ensures { IfOk result (λ text. string_bytes text ≡ match_line port lines.now found) }
 {
     let mut text = String::new(alloc);

@@ -45,12 +45,7 @@ fn add_run(
 }
 
 /// Adds the line of a row.
-fn add_row(
-    text: &mut String,
-    alloc: Global,
-    lead: &str,
-    row: LoaderRow,
-) -> Result<(), AllocError>
+fn add_row(text: &mut String, alloc: Global, lead: &str, row: LoaderRow) -> Result<(), AllocError>
     ensures { OnOk result (string_bytes text.new ≡ string_bytes text.old ++ row_line lead.now row) }
 {
     let words = asker_text(alloc, row.asker)?;
