@@ -14,6 +14,7 @@ use Rattle.job_rehearse.specs.Rehearsed.{AsksAny, PrintsFaultyTable}
 use Rattle.job_rehearse.specs.declared.open_ports.LoadedNode.{LoadedNode}
 use Rattle.job_rehearse.specs.declared.policies.ComparedPolicies.{ComparedPolicies}
 use Rattle.job_rehearse.specs.declared.policies.NoPolicy.{NoPolicy}
+use Rattle.job_rehearse.specs.declared.rehearse.RehearseEnd.{RehearseEnd}
 
 pub stops_more : (P Q : Fault → Type 0) → ((fault : Fault) → P fault → Q fault) → (halt : JobStop) → StopsBy P halt → StopsBy Q halt
 stops_more P Q more (Ended fault) h = more fault h
@@ -31,9 +32,9 @@ reports_none holds none old new status held reported = record {
 }
 
 -- the new policy was asked at the same node
-pub asks_at : (node other : LoadedNode) (asked : ComparedPolicies) (old new : Option (List ℕ)) (status : ExitStatus)
-    → node ≡ other → AsksAny node asked old new status → AsksAny other asked old new status
-asks_at node other asked old new status is asks = subst (λ (n : LoadedNode). AsksAny n asked old new status) is asks
+pub asks_at : (node other : LoadedNode) (asked : ComparedPolicies) (old new : Option (List ℕ)) (end : RehearseEnd)
+    → node ≡ other → AsksAny node asked old new end → AsksAny other asked old new end
+asks_at node other asked old new end is asks = subst (λ (n : LoadedNode). AsksAny n asked old new end) is asks
 
 -- all packets of the loads were taken, and memory was refused to what looks whether the image is loaded
 pub room_stops : (name : List ℕ) (loader : LoadSender) (slots image : List ℕ) (before after : Rehearsing) (old named new : Option (List ℕ))

@@ -5,7 +5,8 @@ use Rattle.job_parts.specs.Reading.{TextUnread}
 use Rattle.job_parts.specs.declared.faults.Fault.{Fault}
 use Rattle.job_parts.specs.declared.status.ExitStatus.{ExitStatus}
 use Rattle.job_parts.specs.declared.status.ExitStatus.TheVariants.{Done, Failed, Misused}
-use Rattle.job_decide.specs.DecidedFile.{DecidesJob, IsGiven, IsNotDecided, AreInputsUnread}
+use Rattle.job_decide.specs.DecidedFile.{DecidesAs, DecidesJob, IsGiven, IsNotDecided, AreInputsUnread}
+use Rattle.job_decide.specs.declared.decide.DecideEnd.{DecideEnd}
 use Rattle.job_decide.specs.declared.decide.DecideWords.{DecideWords}
 use Rattle.folders.specs.Folders.{FolderReads, FolderValue}
 
@@ -32,8 +33,12 @@ pub undecided : (words : DecideWords) (before after : FolderValue) (old new : Op
 undecided words before after old new fault (inl is) = unread words before after fault is.1
 undecided words before after old new fault (inr stops) = decided words before stops.text stops.first.table after stops.ready.given
 
-pub decides_file : (words : DecideWords) (before after : FolderValue) (old new : Option (List ℕ)) (status : ExitStatus)
-    → DecidesJob FolderReads words before after old new status → after ≡ before
-decides_file words before after old new Done is = decided words before is.text is.first.table after is.ready.given
-decides_file words before after old new Failed is = is.held.table.read.0 ∙ is.held.lines.read.0
-decides_file words before after old new Misused is = absurd is
+decides_as : (words : DecideWords) (before after : FolderValue) (old new : Option (List ℕ)) (end : DecideEnd) (status : ExitStatus)
+    → DecidesAs FolderReads words before after old new end status → after ≡ before
+decides_as words before after old new end Done is = decided words before is.text is.first.table after is.ready.given
+decides_as words before after old new end Failed is = is.1.held.table.read.0 ∙ is.1.held.lines.read.0
+decides_as words before after old new end Misused is = absurd is
+
+pub decides_file : (words : DecideWords) (before after : FolderValue) (old new : Option (List ℕ)) (end : DecideEnd)
+    → DecidesJob FolderReads words before after old new end → after ≡ before
+decides_file words before after old new end is = decides_as words before after old new end end.status is

@@ -14,6 +14,7 @@ use Rattle.job_rehearse.specs.declared.loaders.Loaders.TheVariants.{Any, One}
 use Rattle.job_rehearse.specs.declared.loaders.Loaders.{Loaders}
 use Rattle.job_rehearse.specs.declared.policies.NoPolicy.{NoPolicy}
 use Rattle.job_rehearse.specs.declared.policies.NoPolicy.TheVariants.{BadTable, Ended}
+use Rattle.job_rehearse.specs.declared.rehearse.RehearseEnd.{RehearseEnd}
 use Rattle.job_rehearse.specs.declared.rehearse.RehearseWords.{RehearseWords}
 use Rattle.folders.specs.Folders.{FolderReads, FolderValue}
 use Rattle.test_kit_jobs.proofs.NodesLeft.{no_node, some_read}
@@ -65,17 +66,17 @@ done_at : (words : RehearseWords) (place : RehearsalNode) (named : _) (before af
 done_at words place named before after old new status (inl is) = images words (sizes_at place) before is.held.images after is.held.are_images
 done_at words place named before after old new status (inr is) = not_both words (sizes_at place) before after (BadTable is.file is.fault) is.bad
 
-asks_with : (words : RehearseWords) (place : RehearsalNode) (before after : FolderValue) (old new : Option (List ℕ)) (status : ExitStatus)
-    → AsksWith FolderReads words place before after old new status → after ≡ before
-asks_with words place before after old new status (inl is) = images words (sizes_at place) before is.held.images after is.held.are_images
-asks_with words place before after old new status (inr is) = not_asked words (sizes_at place) before after (BadTable is.file is.fault) is.bad
+asks_with : (words : RehearseWords) (place : RehearsalNode) (before after : FolderValue) (old new : Option (List ℕ)) (end : RehearseEnd)
+    → AsksWith FolderReads words place before after old new end → after ≡ before
+asks_with words place before after old new end (inl is) = images words (sizes_at place) before is.held.images after is.held.are_images
+asks_with words place before after old new end (inr is) = not_asked words (sizes_at place) before after (BadTable is.1.file is.1.fault) is.1.bad
 
 -- a rehearsal that no fault ended, of whose loads it is done
-done : (words : RehearseWords) (loaders : Loaders) (before after : FolderValue) (old new : Option (List ℕ)) (status : ExitStatus)
-    → DoesRehearsal FolderReads words loaders before after old new status → after ≡ before
-done words (One named) before after old new status (inl is) = done_at words is.place named is.between after old new status is.does ∙ placed words.place before is.place is.between is.placed
-done words (One named) before after old new status (inr is) = placed words.place before is.place after is.placed
-done words Any before after old new status is = asks_with words is.place is.between after old new status is.does ∙ placed words.place before is.place is.between is.placed
+done : (words : RehearseWords) (loaders : Loaders) (before after : FolderValue) (old new : Option (List ℕ)) (end : RehearseEnd)
+    → DoesRehearsal FolderReads words loaders before after old new end → after ≡ before
+done words (One named) before after old new end (none, inl is) = done_at words is.place named is.between after old new end.status is.does ∙ placed words.place before is.place is.between is.placed
+done words (One named) before after old new end (none, inr is) = placed words.place before is.place after is.placed
+done words Any before after old new end is = asks_with words is.place is.between after old new end is.does ∙ placed words.place before is.place is.between is.placed
 
 -- a rehearsal that a fault ended
 undone_at : (words : RehearseWords) (place : RehearsalNode) (named : _) (before after : FolderValue) (old new : Option (List ℕ)) (fault : Fault)
@@ -96,9 +97,9 @@ undone words (One named) before after old new fault (inr is) = undone_at words i
 undone words Any before after old new fault (is_same, inl is) = unplaced words.place before after fault is
 undone words Any before after old new fault (is_same, inr is) = unasked_there words before after fault is ∙ placed words.place before is.place is.between is.placed
 
-pub rehearses_file : (words : RehearseWords) (before after : FolderValue) (old new : Option (List ℕ)) (status : ExitStatus)
-    → RehearsesFile FolderReads words before after old new status → after ≡ before
-rehearses_file words before after old new status is = done words words.loaders before after old new status is
+pub rehearses_file : (words : RehearseWords) (before after : FolderValue) (old new : Option (List ℕ)) (end : RehearseEnd)
+    → RehearsesFile FolderReads words before after old new end → after ≡ before
+rehearses_file words before after old new end is = done words words.loaders before after old new end is
 
 pub unrehearsed : (words : RehearseWords) (before after : FolderValue) (old new : Option (List ℕ)) (fault : Fault)
     → IsNotRehearsed FolderReads words before after old new fault → after ≡ before

@@ -4,9 +4,9 @@ use Rattle.job_rehearse.proofs.open_ports.add_asker_at.Goals as goal
 pub returns : goal.returns
 returns c =
     on_ok_weaker c.add_asker.result
-    (λ reports. record {
+    (λ adds. record {
       asker = c.asker_at-asker.result;
       is_at = c.asker_at-asker.ensures;
-      reports = reports;
+      adds = adds;
     })
     c.add_asker.ensures

@@ -1,8 +1,15 @@
-use Rattle.std.proofs.Common.{ℕ, List, length, string_bytes, subst}
-use Rattle.job_rehearse.specs.OpenPorts.{PrintsFirstAskers}
+use Rattle.std.proofs.Common.{◌∙◌, List, ap}
+use Rattle.std.proofs.lemmas.Result.{IfOk-weaker}
+use Rattle.job_rehearse.specs.LoaderRows.{rows_text}
+use Rattle.job_rehearse.specs.declared.loader_rows.LoaderRow.{LoaderRow}
 use Rattle.job_rehearse.proofs.open_ports.loaders.Goals as goal
 
 pub returns : goal.returns
 returns c =
-    subst (λ (before : List ℕ). PrintsFirstAskers c.args.judge.now c.args.image.now c.args.node c.args.lead.now c.args.askers.now (length c.args.askers.now) before (string_bytes c.add_askers.new.text))
-    c.new-text.ensures.bytes c.in_ok-add_askers.ensures
+    IfOk-weaker c.rows_text.result _ _
+    (λ text is. record {
+      rows = c.in_ok-rows.rows.items;
+      are_rows = c.in_ok-rows.ensures;
+      lines = is ∙ ap (λ (r : List LoaderRow). rows_text c.args.lead.now r) c.as_slice.ensures.value;
+    })
+    c.rows_text.ensures

@@ -11,7 +11,7 @@ pub returns-in-Ok-clause-done : goal.returns-in-Ok-clause-done
 returns-in-Ok-clause-done g c =
     let held = subst (λ (m : Maps). HoldsAsked g.F.Files.reads c.args.words.now m c.place_in.new.files c.asked_in.new.files c.in-Ok.asked) c.sizes.ensures c.in-Ok.ensures.asked in
     IfOk-weaker c.ask_any.result _ _
-    (λ status done. record {
+    (λ end done. record {
       place = c.in_ok-place.place;
       between = c.place_in.new.files;
       placed = c.in_ok-place.ensures.place;
@@ -37,20 +37,20 @@ returns-in-Ok-clause-stops g c =
 pub returns-clause-done : goal.returns-clause-done
 returns-clause-done g c =
     let none = subst (λ (m : Maps). HoldsNotAsked g.F.Files.reads c.args.words.now m c.place_in.new.files c.asked_in.new.files c.in-Err.none) c.sizes.ensures c.in-Err.ensures.none in
-    IfOk-weaker c.report_none.result _ _
-    (λ status reported. record {
+    IfOk-weaker c.report_unasked.result _ _
+    (λ end reported. record {
       place = c.in_ok-place.place;
       between = c.place_in.new.files;
       placed = c.in_ok-place.ensures.place;
-      does = inr (reports_none _ _ _ _ status none reported);
+      does = inr (reported.0, reports_none _ _ _ _ end.status none reported.1);
     })
-    c.report_none.ensures.reported
+    c.report_unasked.ensures.reported
 
 pub returns-clause-stops : goal.returns-clause-stops
 returns-clause-stops g c =
     let holds : NoPolicy → Type 0 = HoldsNotAsked g.F.Files.reads c.args.words.now (sizes_at c.in_ok-place.place) c.place_in.new.files c.asked_in.new.files in
     let none = subst (λ (m : Maps). HoldsNotAsked g.F.Files.reads c.args.words.now m c.place_in.new.files c.asked_in.new.files c.in-Err.none) c.sizes.ensures c.in-Err.ensures.none in
-    IfErr-weaker c.report_none.result _ _
+    IfErr-weaker c.report_unasked.result _ _
     (λ halt stops. stops_more _ _ (λ fault is. (
       is.1,
       inr (record {
@@ -60,4 +60,4 @@ returns-clause-stops g c =
         unasked = inl (subst holds is.0 none);
       }),
     )) halt stops)
-    c.report_none.ensures.stops
+    c.report_unasked.ensures.stops
