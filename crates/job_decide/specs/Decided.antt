@@ -1,4 +1,4 @@
--- What is decided on a packet, and the tickets that were drawn.
+-- The decision on a packet, and the tickets that were drawn.
 use Rattle.std.specs.Prelude.{◌≡◌, ◌++◌, ℕ, List, [], Option, Some, None, option_map, string_bytes}
 use Rattle.machine.specs.declared.calls.Call.{Call}
 use Rattle.machine.specs.Memory.{Header, header}
@@ -37,7 +37,7 @@ reported_passed InvalidKey rules header draws = passed_rules rules header draws
 reported_passed NotAuthorised rules header draws = passed_rules rules header draws
 reported_passed InvalidLogicalAddress rules header draws = passed_rules rules header draws
 
--- what decides, if the table does: the line of the rule, if there is one, and the verdict; the rules are in these lines
+-- by what the table decides: the line of the rule, if there is one, and the verdict; the rules are in these lines
 abbrev pub decided_by : (lines : List ℕ) → Match → DecidedBy
 decided_by lines found = Table (option_map (λ number. decision_line_of lines number) found.rule) found.verdict
 
@@ -47,8 +47,8 @@ pub record ReportsMatch (port : ℕ) (lines : List ℕ) (found : Match) (made : 
   pub by : made.by ≡ decided_by lines found
   pub line : string_bytes made.line ≡ match_line port lines found
 
--- the decision is by the rule by which a table of a port decides on the header of the command, with its line among
--- these, as the counts answer its draws. The counts are those after its draws
+-- a table of a port decides on the header of the command, as the counts answer its draws. The decision is by that rule,
+-- with its line among these, and the counts are those after its draws
 pub record DecidesByTable (port : ℕ) (rules : List Rule) (lines : List ℕ) (c : CommandValue) (before after : List ℕ)
     (made : PacketDecision) : Type 0 where
   pub reports : ReportsMatch port lines

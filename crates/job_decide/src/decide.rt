@@ -55,7 +55,7 @@ pub struct DecideWords {
 pub struct DecideEnd {
     /// The exit status.
     pub status: ExitStatus,
-    /// What was decided on each packet, in order, if all lines were taken. What was printed are their lines.
+    /// The decision on each packet, in order, if all lines were taken. The job printed the lines of these.
     pub decisions: Option<Vec<PacketDecision>>,
 }
 

@@ -1,4 +1,4 @@
-//! What was decided on a packet, and what is printed of it.
+//! Decisions on packets, and how they are printed.
 
 ghost use Rattle.std.specs.Prelude.{◌≡◌, ◌<◌, ◌++◌, ◌∷◌, [], IfErr, OnOk};
 ghost use Rattle.std.specs.Vec.{vec_capacity, vec_len};
@@ -27,7 +27,7 @@ pub enum DecidedBy {
     Discarded(Discard),
 }
 
-/// What was decided on a packet, and what is printed of it.
+/// A decision on a packet, and what is printed of it.
 #[derive(Debug, Drop)]
 pub struct PacketDecision {
     /// The port at which the packet came.

@@ -1,4 +1,4 @@
-//! What is decided on a packet.
+//! How a packet is decided on.
 
 ghost use Rattle.std.specs.Prelude.{◌≡◌, ◌++◌, IfOk, OnOk, codes, decimal, option_map, string_bytes};
 ghost use Rattle.machine.specs.Memory.{header};
@@ -112,7 +112,7 @@ fn match_text(alloc: Global, port: u8, lines: &[usize], found: Match) -> Result<
     Ok(text)
 }
 
-/// What decides, if the table does.
+/// By what the table decides.
 fn decided_by(lines: &[usize], found: Match) -> DecidedBy
     ensures { result ≡ decided_by lines.now found }
 {

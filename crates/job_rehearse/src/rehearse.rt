@@ -412,8 +412,8 @@ fn rehearse_named<'a, F: Files, W: Write>(
 
 /// Rehearses the load of the policy of a file at a node on which that of another judges, and the way back. It prints
 /// what becomes of each packet of the loads, and whether the way back is open. Or it asks the new policy whose loads of
-/// the old one it lets pass, and loads nothing; then it prints the rows that it gives. If a table has a fault, it prints
-/// that with the name of its file and the place, and the job failed.
+/// the old one it lets pass, and loads nothing. Then it gives the rows of that, and prints them. If a table has a fault,
+/// it prints that with the name of its file and the place, and the job failed.
 ///
 /// # Errors
 ///
