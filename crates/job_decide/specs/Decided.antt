@@ -27,7 +27,7 @@ use Rattle.job_parts.specs.declared.stops.LineEnd.TheVariants.{NoMemory}
 use Rattle.job_decide.specs.DecideJob.{match_line, status_text}
 use Rattle.job_decide.specs.Tables.{decision_line_of}
 use Rattle.job_decide.specs.declared.decisions.DecidedBy.{DecidedBy}
-use Rattle.job_decide.specs.declared.decisions.DecidedBy.TheVariants.{Discarded, Header, Table}
+use Rattle.job_decide.specs.declared.decisions.DecidedBy.TheVariants.{Discarded, Header as ByHeader, Table as ByTable}
 use Rattle.job_decide.specs.declared.decisions.PacketDecision.{PacketDecision}
 
 -- why the rules before the one that decides do not match, if that one refuses
@@ -39,7 +39,7 @@ reported_passed InvalidLogicalAddress rules header draws = passed_rules rules he
 
 -- by what the table decides: the line of the rule, if there is one, and the verdict; the rules are in these lines
 abbrev pub decided_by : (lines : List ℕ) → Match → DecidedBy
-decided_by lines found = Table (option_map (λ number. decision_line_of lines number) found.rule) found.verdict
+decided_by lines found = ByTable (option_map (λ number. decision_line_of lines number) found.rule) found.verdict
 
 -- the decision is by what the table of a port finds, and its line says so. Its rules are in these lines
 pub record ReportsMatch (port : ℕ) (lines : List ℕ) (found : Match) (made : PacketDecision) : Type 0 where
@@ -65,7 +65,7 @@ DecidesByPolicy port policy c before after made =
 -- it
 pub record ReportsStatus (port : ℕ) (status : Status) (made : PacketDecision) : Type 0 where
   pub port_is : made.port ≡ port
-  pub by : made.by ≡ Header status
+  pub by : made.by ≡ ByHeader status
   pub reason : List ℕ
   pub line : string_bytes made.line ≡ status_text port status ++ reason
   pub only : string_bytes made.why ≡ []
