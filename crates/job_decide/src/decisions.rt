@@ -69,8 +69,8 @@ pub(crate) fn print_and_keep<W: Write>(
     made: PacketDecision,
     out: &mut W,
 ) -> Result<(), LineStop>
-    ensures kept { OnOk result (decisions.new.items ≡ decisions.old.items ++ made ∷ []) }
-    ensures printed { OnOk result (Prints W.contents out.old out.new (decision_text made)) }
+    ensures kept { OnOk result ((decisions.new.items ≡ decisions.old.items ++ made ∷ [])
+        × Prints W.contents out.old out.new (decision_text made)) }
     ensures stops { IfErr result (StopsLineBy (IsMemoryRefused (W.contents out.old) (W.contents out.new))) }
 {
     decisions.reserve(1)?;
