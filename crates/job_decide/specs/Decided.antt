@@ -51,8 +51,11 @@ pub record ReportsMatch (port : ℕ) (lines : List ℕ) (found : Match) (made : 
 -- with its line among these, and the counts are those after its draws
 pub record DecidesByTable (port : ℕ) (rules : List Rule) (lines : List ℕ) (c : CommandValue) (before after : List ℕ)
     (made : PacketDecision) : Type 0 where
-  pub reports : ReportsMatch port lines
-      (matched rules (header c.front c.tail) (reported_on before rules (header c.front c.tail))) made
+  pub port_is : made.port ≡ port
+  pub by : made.by
+      ≡ decided_by lines (matched rules (header c.front c.tail) (reported_on before rules (header c.front c.tail)))
+  pub line : string_bytes made.line
+      ≡ match_line port lines (matched rules (header c.front c.tail) (reported_on before rules (header c.front c.tail)))
   pub counts : after
       ≡ after_draws before (decision rules (header c.front c.tail) (reported_on before rules (header c.front c.tail))).0
 
