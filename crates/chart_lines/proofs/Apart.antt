@@ -13,7 +13,7 @@ use Rattle.charts.specs.Lines.{IsComparison, IsMap, has_point, have_same_words, 
 use Rattle.charts.specs.Plain.{LinesArePlain}
 use Rattle.charts.specs.declared.lines.ChartLine.{ChartLine}
 use Rattle.chart_lines.specs.AskedTables.{AskedValue}
-use Rattle.chart_lines.specs.Begun.{AreBegun, HasTold, IsOf, SayOther, said_by}
+use Rattle.chart_lines.specs.Begun.{AreBegun, HasReported, IsOf, SayOther, said_by}
 use Rattle.chart_lines.specs.Compared.{IsDifferenceAt, PrintsLine as DifferenceLine}
 use Rattle.chart_lines.specs.Mapped.{PrintsLine as MapLine, map_line_text}
 use Rattle.chart_lines.specs.Rows.{AddsRow, RowValue, RowContentValue, row_of}
@@ -54,9 +54,9 @@ taken_gone (other ∷ others) line (suc n) d p there takes =
     ap (λ (t : Bool). not (have_same_words other.region line.region && lies_in other.region p) && t) (taken_gone others line n d p (omega arith) takes)
     ∙ no_more (not (have_same_words other.region line.region && lies_in other.region p))
 
-nil_behind : (xs : List ChartLine) → xs ++ [] ≡ xs
-nil_behind [] = refl
-nil_behind (x ∷ xs) = ap (λ (ls : List ChartLine). x ∷ ls) (nil_behind xs)
+append_nil : (xs : List ChartLine) → xs ++ [] ≡ xs
+append_nil [] = refl
+append_nil (x ∷ xs) = ap (λ (ls : List ChartLine). x ∷ ls) (append_nil xs)
 
 at_first : (before lines : List ChartLine) (line : ChartLine) (n : ℕ) (own : ChartLine) (p : Point) → has_point (before ++ line ∷ take n lines) own p ≡ true → has_point ((before ++ line ∷ []) ++ take n lines) own p ≡ true
 at_first before lines line n own p h = ap (λ (ls : List ChartLine). has_point ls own p) (append_assoc before (line ∷ []) (take n lines)) ∙ h
@@ -65,7 +65,7 @@ at_first before lines line n own p h = ap (λ (ls : List ChartLine). has_point l
 one_there : (before lines : List ChartLine) (n : ℕ) (d : ChartLine) (p : Point) → n < length lines → has_point (before ++ take n lines) (get_or lines n d) p ≡ true → 1 ≤ length (point_lines_of before lines p)
 one_there before [] n d p there h = absurd (omega arith)
 one_there before (line ∷ lines) zero d p there h =
-    step (has_point before line p) (point_lines_of (before ++ line ∷ []) lines p) (ap (λ (ls : List ChartLine). has_point ls line p) (sym (nil_behind before)) ∙ h)
+    step (has_point before line p) (point_lines_of (before ++ line ∷ []) lines p) (ap (λ (ls : List ChartLine). has_point ls line p) (sym (append_nil before)) ∙ h)
   where
     step : (t : Bool) (rest : List ChartLine) → t ≡ true → 1 ≤ length (if t then line ∷ rest else rest)
     step true rest e = omega arith
@@ -83,7 +83,7 @@ two_there : (before lines : List ChartLine) (n m : ℕ) (d : ChartLine) (p : Poi
 two_there before [] n m d p lt there h k = absurd (omega arith)
 two_there before (line ∷ lines) n zero d p lt there h k = absurd (omega (arith, lt))
 two_there before (line ∷ lines) zero (suc m) d p lt there h k =
-    step (has_point before line p) (point_lines_of (before ++ line ∷ []) lines p) (ap (λ (ls : List ChartLine). has_point ls line p) (sym (nil_behind before)) ∙ h)
+    step (has_point before line p) (point_lines_of (before ++ line ∷ []) lines p) (ap (λ (ls : List ChartLine). has_point ls line p) (sym (append_nil before)) ∙ h)
     (one_there (before ++ line ∷ []) lines m d p (omega arith) (at_first before lines line m (get_or lines m d) p k))
   where
     step : (t : Bool) (rest : List ChartLine) → t ≡ true → 1 ≤ length rest → 2 ≤ length (if t then line ∷ rest else rest)
@@ -250,7 +250,7 @@ own_point lines place line p own witness = subst (λ (l : ChartLine). has_point 
 
 -- of a map
 pub others_mapped : LinesArePlain → (asked : PointRegion) (ports : List ℕ) (at : AskedValue) (lines : List ChartLine) → IsMap asked at.rules lines → (place : ℕ) (line : ChartLine) (p : Point) (said : RowContentValue) (rows : List RowValue) (from : ℕ)
-    → place < length lines → ((other : ChartLine) → get_or lines place other ≡ line) → IsLineWitness lines place p → said ≡ map_line_text at line p → HasTold (MapLine ports at lines) place from rows → SayOther said from rows
+    → place < length lines → ((other : ChartLine) → get_or lines place other ≡ line) → IsLineWitness lines place p → said ≡ map_line_text at line p → HasReported (MapLine ports at lines) place from rows → SayOther said from rows
 others_mapped law asked ports at lines is place line p said rows from there own witness same reported =
     let has = own_point lines place line p own witness in
     let plain = law asked true at.rules [] lines is place line there own p witness.command has in
@@ -259,7 +259,7 @@ others_mapped law asked ports at lines is place line p said rows from there own 
 
 -- of a comparison
 pub others_compared : LinesArePlain → (asked : PointRegion) (ports : List ℕ) (old new : AskedValue) (lines : List ChartLine) → IsComparison asked old.rules new.rules lines → (place : ℕ) (line : ChartLine) (p : Point) (said : RowContentValue) (rows : List RowValue) (from : ℕ)
-    → place < length lines → ((other : ChartLine) → get_or lines place other ≡ line) → IsLineWitness lines place p → IsDifferenceAt old new line p said → HasTold (DifferenceLine ports old new lines) place from rows → SayOther said from rows
+    → place < length lines → ((other : ChartLine) → get_or lines place other ≡ line) → IsLineWitness lines place p → IsDifferenceAt old new line p said → HasReported (DifferenceLine ports old new lines) place from rows → SayOther said from rows
 others_compared law asked ports old new lines compared place line p said rows from there own witness is reported =
     let has = own_point lines place line p own witness in
     let plain = law asked false old.rules new.rules lines compared place line there own p witness.command has in

@@ -4,4 +4,4 @@ mod Somewhere
 mod Reporting
 mod WitnessPoints
 mod Apart
-mod Behind
+mod After

@@ -21,7 +21,7 @@ pub record AreBegun (chart : List ChartLine) (count : ℕ) (from : ℕ) (rows : 
   pub lines : All (IsOf chart count) (drop from (said_by rows))
 
 -- the first `place` lines of a chart were reported after the first `from` rows
-pub record HasTold (reports : (place : ℕ) → (before after : List RowValue) → Type 0) (place : ℕ) (from : ℕ) (rows : List RowValue) : Type 0 where
+pub record HasReported (reports : (place : ℕ) → (before after : List RowValue) → Type 0) (place : ℕ) (from : ℕ) (rows : List RowValue) : Type 0 where
   pub first : List RowValue
   pub counted : from ≡ length first
   pub reported : PrintsFirst reports place first rows

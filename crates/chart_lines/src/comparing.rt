@@ -4,7 +4,7 @@ ghost use Rattle.std.specs.Prelude.{◌≡◌, ◌<◌, ◌∷◌, [], IfOk, OnO
 ghost use Rattle.charts.specs.Lines.{IsComparison};
 ghost use Rattle.regions.specs.Points.{HasCommand};
 ghost use Rattle.chart_lines.specs.AskedTables.{asked_at};
-ghost use Rattle.chart_lines.specs.Begun.{HasTold};
+ghost use Rattle.chart_lines.specs.Begun.{HasReported};
 ghost use Rattle.chart_lines.specs.Compared.{AreDifferenceRows, IsDifferenceAt, PrintsLine, PrintsLines, PrintsPorts};
 ghost use Rattle.chart_lines.specs.Ports.{AtPort, is_named_by, ports_for};
 ghost use Rattle.chart_lines.specs.Reporting.{PrintsFirst};
@@ -69,7 +69,7 @@ fn add_line(
 ) -> Result<(), AllocError>
     requires place { place < length comparison.chart.now }
     requires comparison { IsComparison comparison.asked.now comparison.old.now.rules comparison.new.now.rules comparison.chart.now }
-    requires reported { HasTold (PrintsLine ports.now comparison.old.now comparison.new.now comparison.chart.now) place from rows.old.items }
+    requires reported { HasReported (PrintsLine ports.now comparison.old.now comparison.new.now comparison.chart.now) place from rows.old.items }
     ensures { OnOk result (PrintsLine ports.now comparison.entry.old.now comparison.entry.new.now
         comparison.entry.chart.now place rows.old.items rows.new.items) }
 {

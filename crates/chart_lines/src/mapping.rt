@@ -4,7 +4,7 @@ ghost use Rattle.std.specs.Prelude.{◌≡◌, ◌<◌, ◌∷◌, [], IfOk, OnO
 ghost use Rattle.charts.specs.Lines.{IsMap};
 ghost use Rattle.policy_table.specs.PortTables.{is_named};
 ghost use Rattle.chart_lines.specs.AskedTables.{asked_at};
-ghost use Rattle.chart_lines.specs.Begun.{HasTold};
+ghost use Rattle.chart_lines.specs.Begun.{HasReported};
 ghost use Rattle.chart_lines.specs.Mapped.{AreMapRows, PrintsLine, PrintsLines, PrintsPorts, map_line_text};
 ghost use Rattle.chart_lines.specs.Ports.{AtPort, ports_for};
 ghost use Rattle.chart_lines.specs.Reporting.{PrintsFirst};
@@ -48,7 +48,7 @@ fn add_line(
 ) -> Result<(), AllocError>
     requires place { place < length chart.now }
     requires map { IsMap asked.now at.now.rules chart.now }
-    requires reported { HasTold (PrintsLine ports.now at.now chart.now) place from rows.old.items }
+    requires reported { HasReported (PrintsLine ports.now at.now chart.now) place from rows.old.items }
     ensures { OnOk result
         (PrintsLine ports.now at.now chart.now place rows.old.items rows.new.items) }
 {

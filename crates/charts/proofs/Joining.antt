@@ -52,20 +52,20 @@ none_lines before (line ∷ lines) p none =
     step false r rest e f = f
 
 -- before others, such lines take nothing away
-left_behind : (front before : List ChartLine) (line : ChartLine) (p : Point) → NoneHas front p → is_left (front ++ before) line p ≡ is_left before line p
-left_behind [] before line p none = refl
-left_behind (other ∷ others) before line p none =
-    one (have_same_words other.region line.region) (lies_in other.region p) (is_left (others ++ before) line p) none.0 ∙ left_behind others before line p none.1
+left_after : (front before : List ChartLine) (line : ChartLine) (p : Point) → NoneHas front p → is_left (front ++ before) line p ≡ is_left before line p
+left_after [] before line p none = refl
+left_after (other ∷ others) before line p none =
+    one (have_same_words other.region line.region) (lies_in other.region p) (is_left (others ++ before) line p) none.0 ∙ left_after others before line p none.1
   where
     one : (s t u : Bool) → t ≡ false → (not (s && t) && u) ≡ u
     one true t u e = rw e refl
     one false t u e = refl
 
-lines_behind : (front before lines : List ChartLine) (p : Point) → NoneHas front p → point_lines_of (front ++ before) lines p ≡ point_lines_of before lines p
-lines_behind front before [] p none = refl
-lines_behind front before (line ∷ lines) p none =
-    step (is_left (front ++ before) line p) (is_left before line p) (point_lines_of ((front ++ before) ++ line ∷ []) lines p) (point_lines_of (before ++ line ∷ []) lines p) (left_behind front before line p none)
-    (ap (λ (ls : List ChartLine). point_lines_of ls lines p) (append_assoc front before (line ∷ [])) ∙ lines_behind front (before ++ line ∷ []) lines p none)
+lines_after : (front before lines : List ChartLine) (p : Point) → NoneHas front p → point_lines_of (front ++ before) lines p ≡ point_lines_of before lines p
+lines_after front before [] p none = refl
+lines_after front before (line ∷ lines) p none =
+    step (is_left (front ++ before) line p) (is_left before line p) (point_lines_of ((front ++ before) ++ line ∷ []) lines p) (point_lines_of (before ++ line ∷ []) lines p) (left_after front before line p none)
+    (ap (λ (ls : List ChartLine). point_lines_of ls lines p) (append_assoc front before (line ∷ [])) ∙ lines_after front (before ++ line ∷ []) lines p none)
   where
     step : (l m : Bool) (rest others : List ChartLine) → l ≡ m → rest ≡ others
         → (if lies_in line.region p && (not line.rest || l) then line ∷ rest else rest) ≡ (if lies_in line.region p && (not line.rest || m) then line ∷ others else others)
@@ -88,20 +88,20 @@ lines_joined before (line ∷ ones) others p =
 
 -- ---- what is reported of a point
 
-same_told : (reported is : Bool) (old new : List Rule) (lines others : List ChartLine) (p : Point) → reported ≡ is → point_lines_of [] others p ≡ point_lines_of [] lines p
+reported_is_same : (reported is : Bool) (old new : List Rule) (lines others : List ChartLine) (p : Point) → reported ≡ is → point_lines_of [] others p ≡ point_lines_of [] lines p
     → IsReportedRightly reported old new lines p → IsReportedRightly is old new others p
-same_told true true old new lines others p e same h = record { line = h.line; alone = same ∙ h.alone; old_path = h.old_path; new_path = h.new_path }
-same_told false false old new lines others p e same h = same ∙ h
-same_told true false old new lines others p e same h = absurd (cc (e))
-same_told false true old new lines others p e same h = absurd (cc (e))
+reported_is_same true true old new lines others p e same h = record { line = h.line; alone = same ∙ h.alone; old_path = h.old_path; new_path = h.new_path }
+reported_is_same false false old new lines others p e same h = same ∙ h
+reported_is_same true false old new lines others p e same h = absurd (cc (e))
+reported_is_same false true old new lines others p e same h = absurd (cc (e))
 
-nothing_told : (reported : Bool) (old new : List Rule) (lines : List ChartLine) (p : Point) → reported ≡ false → point_lines_of [] lines p ≡ [] → IsReportedRightly reported old new lines p
-nothing_told true old new lines p e none = absurd (cc (e))
-nothing_told false old new lines p e none = none
+nothing_reported : (reported : Bool) (old new : List Rule) (lines : List ChartLine) (p : Point) → reported ≡ false → point_lines_of [] lines p ≡ [] → IsReportedRightly reported old new lines p
+nothing_reported true old new lines p e none = absurd (cc (e))
+nothing_reported false old new lines p e none = none
 
-nil_behind : (xs : List ChartLine) → xs ++ [] ≡ xs
-nil_behind [] = refl
-nil_behind (x ∷ xs) = ap (λ (ls : List ChartLine). x ∷ ls) (nil_behind xs)
+append_nil : (xs : List ChartLine) → xs ++ [] ≡ xs
+append_nil [] = refl
+append_nil (x ∷ xs) = ap (λ (ls : List ChartLine). x ∷ ls) (append_nil xs)
 
 -- ---- one piece
 
@@ -112,7 +112,7 @@ piece_by None asked all old new lines Q within holds = record { within = within;
     by_lies : (p : Point) → HasCommand p → (t : Bool) → lies_in asked p ≡ t → IsReportedRightly (is_reported asked all old new p) old new lines p
     by_lies p has true e = holds p has e
     by_lies p has false e =
-        nothing_told (is_reported asked all old new p) old new lines p (ap (λ (t : Bool). t && (all || not (alike_said (held p old) (held p new)))) e)
+        nothing_reported (is_reported asked all old new p) old new lines p (ap (λ (t : Bool). t && (all || not (alike_said (held p old) (held p new)))) e)
         (none_lines [] lines p (none_has asked lines p within has e))
 piece_by (Some p) asked all old new lines Q within holds = tt
 
@@ -127,8 +127,8 @@ module _ (asked shape : PointRegion) (side : Side) (inside outside : PointRegion
   wider : (part : PointRegion) (test : Point → Bool) → ((p : Point) → HasCommand p → lies_in part p ≡ (lies_in asked p && test p)) → (lines : List ChartLine) → LieWithin part lines → LieWithin asked lines
   wider part test is lines within = All-weaker (λ (l : ChartLine). LiesWithin l.region part) (λ (l : ChartLine). LiesWithin l.region asked) (λ l h p has lies. both (lies_in asked p) (test p) (sym (is p has) ∙ h p has lies)) lines within
 
-  told_by : (p : Point) (t u : Bool) → t ≡ u → (t && (all || not (alike_said (held p old) (held p new)))) ≡ (u && (all || not (alike_said (held p old) (held p new))))
-  told_by p t u e = rw e refl
+  reported_by : (p : Point) (t u : Bool) → t ≡ u → (t && (all || not (alike_said (held p old) (held p new)))) ≡ (u && (all || not (alike_said (held p old) (held p new))))
+  reported_by p t u e = rw e refl
 
   -- a point of the first piece
   in_one : (p : Point) → HasCommand p → lies_in asked p ≡ true → meets side shape p ≡ true → IsReportedRightly (is_reported asked all old new p) old new (ones ++ others) p
@@ -136,16 +136,16 @@ module _ (asked shape : PointRegion) (side : Side) (inside outside : PointRegion
       let in_ : lies_in inside p ≡ true = cut.met p has ∙ rw (lies, met) refl in
       let out : lies_in outside p ≡ false = cut.unmet p has ∙ rw (lies, met) refl in
       let none : point_lines_of ones others p ≡ [] = none_lines ones others p (none_has outside others p other.within has out) in
-      same_told (is_reported inside all old new p) (is_reported asked all old new p) old new ones (ones ++ others) p (told_by p (lies_in inside p) (lies_in asked p) (in_ ∙ sym lies))
-      (lines_joined [] ones others p ∙ ap (λ (ls : List ChartLine). point_lines_of [] ones p ++ ls) none ∙ nil_behind (point_lines_of [] ones p)) (one.chart p has)
+      reported_is_same (is_reported inside all old new p) (is_reported asked all old new p) old new ones (ones ++ others) p (reported_by p (lies_in inside p) (lies_in asked p) (in_ ∙ sym lies))
+      (lines_joined [] ones others p ∙ ap (λ (ls : List ChartLine). point_lines_of [] ones p ++ ls) none ∙ append_nil (point_lines_of [] ones p)) (one.chart p has)
 
   -- a point that is not of it
   in_other : (p : Point) → HasCommand p → lies_in inside p ≡ false → lies_in outside p ≡ lies_in asked p → IsReportedRightly (is_reported asked all old new p) old new (ones ++ others) p
   in_other p has out same =
       let none : NoneHas ones p = none_has inside ones p one.within has out in
-      same_told (is_reported outside all old new p) (is_reported asked all old new p) old new others (ones ++ others) p (told_by p (lies_in outside p) (lies_in asked p) same)
+      reported_is_same (is_reported outside all old new p) (is_reported asked all old new p) old new others (ones ++ others) p (reported_by p (lies_in outside p) (lies_in asked p) same)
       (lines_joined [] ones others p ∙ ap (λ (ls : List ChartLine). ls ++ point_lines_of ones others p) (none_lines [] ones p none)
-      ∙ ap (λ (ls : List ChartLine). point_lines_of ls others p) (sym (nil_behind ones)) ∙ lines_behind ones [] others p none) (other.chart p has)
+      ∙ ap (λ (ls : List ChartLine). point_lines_of ls others p) (sym (append_nil ones)) ∙ lines_after ones [] others p none) (other.chart p has)
 
   by_side : (p : Point) → HasCommand p → (t u : Bool) → lies_in asked p ≡ t → meets side shape p ≡ u → IsReportedRightly (is_reported asked all old new p) old new (ones ++ others) p
   by_side p has true true lies met = in_one p has lies met

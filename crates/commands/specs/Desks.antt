@@ -38,10 +38,10 @@ pub record DeskWords (D T L : Type 0) : Type 1 where
 
 module _ {D T L : Type 0} (words : DeskWords D T L) where
   -- what a file gives of what the desk has of it: none, or the bytes that are given for it
-  abbrev pub GivesTold : FileNotes → (before : D) → (name : List ℕ) → (given : Option (List ℕ)) → (after : D) → Type 0
-  GivesTold noted before name None after =
+  abbrev pub GivesReported : FileNotes → (before : D) → (name : List ℕ) → (given : Option (List ℕ)) → (after : D) → Type 0
+  GivesReported noted before name None after =
       words.reads before name None after ⊎ ((bytes : List ℕ) × words.reads before name (Some bytes) after)
-  GivesTold noted before name (Some given) after =
+  GivesReported noted before name (Some given) after =
       (bytes : List ℕ) × words.reads before name (Some bytes) after
       × (reads_dump noted ≡ false → GivesPlaced noted (next_content noted) bytes given)
 
@@ -50,7 +50,7 @@ module _ {D T L : Type 0} (words : DeskWords D T L) where
   pub record ToldReads (before : MachineFiles D) (name : List ℕ) (given : Option (List ℕ)) (after : MachineFiles D) : Type 0 where
     pub dump : reads_dump after.noted ≡ reads_dump before.noted
     pub maps : maps_for after.noted ≡ maps_for before.noted
-    pub gave : GivesTold before.noted before.desk name given after.desk
+    pub gave : GivesReported before.noted before.desk name given after.desk
 
   -- a write of a job is one of the desk
   pub record ToldWrites (before : MachineFiles D) (name bytes : List ℕ) (is_taken : Bool) (after : MachineFiles D) : Type 0 where

@@ -187,7 +187,7 @@ module _ {D T L : Type 0} (desk : DeskWords D T L) where
   EndsTalk (Err refused) end = LosesOutput end
 
   -- the node's file of a job says no configuration: its fault was printed, and nothing was done
-  pub record TellsNode (own : NodeJob) (before : D) (end : End) (after : D) : Type 0 where
+  pub record ReportsNode (own : NodeJob) (before : D) (end : End) (after : D) : Type 0 where
     pub start : MachineFiles D
     pub stop : MachineFiles D
     pub fault : Fault
@@ -266,7 +266,7 @@ module _ {D T L : Type 0} (desk : DeskWords D T L) (E : Type 0) (talk : TalkWord
   abbrev pub DoesOnNode : NodeJob → (before : D) → End → (after : D) → Type 0
   DoesOnNode own before end after =
       (IsApartFrom desk (string_bytes own.node) before (made_of own.job)
-      × (DoesPlaced own before end after ⊎ TellsNode desk own before end after))
+      × (DoesPlaced own before end after ⊎ ReportsNode desk own before end after))
       ⊎ ((name : List ℕ) × IsOwnOf desk (string_bytes own.node) before (made_of own.job) name × RefusesOutput desk name before end after)
 
 module _ {D T L : Type 0} (desk : DeskWords D T L) (E : Type 0) (talk : TalkWords T) (serves : Bool) (link : LinkWords L) where
@@ -309,7 +309,7 @@ module _ {D T L : Type 0} (desk : DeskWords D T L) (E : Type 0) (talk : TalkWord
     pub done : DoesWork work before end after
 
   -- the words name no work, and ask for a text, which was printed
-  pub record TellsText (words : List Text) (before : D) (end : End) (after : D) : Type 0 where
+  pub record ReportsText (words : List Text) (before : D) (end : End) (after : D) : Type 0 where
     pub text : List ℕ
     pub asked : AskText words
     pub reported : Prints desk text Done before end after
@@ -325,7 +325,7 @@ module _ {D T L : Type 0} (desk : DeskWords D T L) (E : Type 0) (talk : TalkWord
   -- what words come to: the work that they name is done. Or they name none, and a text is printed, or they are misused
   abbrev pub DoesGiven : List Text → (before : D) → End → (after : D) → Type 0
   DoesGiven words before end after =
-      DoesNamed words before end after ⊎ TellsText words before end after ⊎ IsMisused words before end after
+      DoesNamed words before end after ⊎ ReportsText words before end after ⊎ IsMisused words before end after
 
   -- a program ends with the status of what words come to; or memory was refused to it, and the status is 1
   abbrev pub EndsBy : List Text → (before : D) → (code : ℕ) → Type 0

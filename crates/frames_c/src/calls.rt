@@ -16,7 +16,7 @@ use crate::checked::CheckedFrames;
 use crate::codes::{DAMAGED, IS_OPEN, NO_MEMORY, NO_NODE, NO_ROOM, OK};
 use crate::handle::FramesHandle;
 use crate::held::{put_in, take_out};
-use crate::numbers::CameNumbers;
+use crate::numbers::ReceivedNumbers;
 use frames::{Flag, FrameHead, HEAD_LENGTH};
 use spw::{End, MAX_PACKET};
 use std::alloc::{AllocError, Global};
@@ -37,7 +37,7 @@ fn take_into(
     frames: &mut CheckedFrames,
     bytes: &[u8],
     packet: &mut [u8],
-    received: &mut CameNumbers,
+    received: &mut ReceivedNumbers,
 ) -> u32
     ensures { TakesFrames bytes.now packet.old packet.new received.old received.new
         (Some frames.old) (Some frames.new) result }
@@ -78,7 +78,7 @@ impl FramesHandle {
         alloc: Global,
         bytes: &[u8],
         packet: &mut [u8],
-        received: &mut CameNumbers,
+        received: &mut ReceivedNumbers,
     ) -> u32
         ensures { TakesFrames bytes.now packet.old packet.new received.old received.new
             self.old.kept self.new.kept result }

@@ -3,12 +3,12 @@
 ghost use Rattle.std.specs.Prelude.{◌≡◌, ◌≤◌, IfOk, length};
 ghost use Rattle.frames.specs.Reading.{first_reading};
 ghost use Rattle.frames_c.specs.Whole.{checked, complement_of_left, is_whole};
-ghost use Rattle.frames_c.specs.Numbers.{came_numbers, packet_in};
+ghost use Rattle.frames_c.specs.Numbers.{received_numbers, packet_in};
 ghost use Rattle.frames_c.specs.Taking.{take_whole};
 ghost use Rattle.spw.specs.Rooms.{put_front};
 ghost use Rattle.spw.specs.declared.packets.TheConstants.{MAX_PACKET};
 
-use crate::numbers::CameNumbers;
+use crate::numbers::ReceivedNumbers;
 use crate::reader::Frames;
 use std::alloc::{AllocError, Global};
 use std::marker::Model;
@@ -67,10 +67,10 @@ impl CheckedFrames {
     /// Takes bytes up to the first with which something came whole, or all of them if nothing does, and reports how
     /// many, and what came. The bytes of a packet go to the front of the room. The condition is room for the longest
     /// packet.
-    pub fn take(&mut self, bytes: &[u8], room: &mut [u8]) -> CameNumbers
+    pub fn take(&mut self, bytes: &[u8], room: &mut [u8]) -> ReceivedNumbers
         requires { MAX_PACKET ≤ length room.old }
         ensures reported { result
-            ≡ came_numbers (take_whole self.old.reading bytes.now).count (take_whole self.old.reading bytes.now).received }
+            ≡ received_numbers (take_whole self.old.reading bytes.now).count (take_whole self.old.reading bytes.now).received }
         ensures room { room.new ≡ put_front room.old (packet_in (take_whole self.old.reading bytes.now).received) }
         ensures read { self.new ≡ checked (take_whole self.old.reading bytes.now).next }
     {

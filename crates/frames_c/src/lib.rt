@@ -19,4 +19,4 @@ mod room;
 pub use crate::calls::head;
 pub use crate::handle::FramesHandle;
 pub use crate::laws::{changes_are_seen, frames_are_taken};
-pub use crate::numbers::CameNumbers;
+pub use crate::numbers::ReceivedNumbers;

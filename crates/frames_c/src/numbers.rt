@@ -1,7 +1,7 @@
 //! The struct of numbers that crosses. The header has the same fields in the same order.
 
 ghost use Rattle.std.specs.Prelude.{◌≡◌, None};
-ghost use Rattle.frames_c.specs.Numbers.{came_numbers};
+ghost use Rattle.frames_c.specs.Numbers.{received_numbers};
 
 use frames::Flag;
 
@@ -20,7 +20,7 @@ pub const BRIDGE: u8 = 3;
 /// What bytes brought.
 #[repr(C)]
 #[derive(Clone, Copy)]
-pub struct CameNumbers {
+pub struct ReceivedNumbers {
     pub taken: u64,
     pub length: u32,
     pub kind: u8,
@@ -29,12 +29,12 @@ pub struct CameNumbers {
     pub unused: u8,
 }
 
-impl CameNumbers {
+impl ReceivedNumbers {
     /// That many bytes were taken, and brought nothing.
-    pub fn nothing(taken: u64) -> CameNumbers
-        ensures { result ≡ came_numbers taken None }
+    pub fn nothing(taken: u64) -> ReceivedNumbers
+        ensures { result ≡ received_numbers taken None }
     {
-        CameNumbers {
+        ReceivedNumbers {
             taken,
             length: 0,
             kind: NOTHING,

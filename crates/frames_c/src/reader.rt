@@ -4,13 +4,13 @@ ghost use Rattle.std.specs.Prelude.{◌≡◌, ◌≢◌, ◌≤◌, [], Some, I
 ghost use Rattle.frames.specs.Reading.{after_end, received_of, comes, first_reading, in_body, in_head, next, reading_step};
 ghost use Rattle.frames.specs.declared.flags.Flag.TheVariants.{Last};
 ghost use Rattle.frames_c.specs.Whole.{state_sum};
-ghost use Rattle.frames_c.specs.Numbers.{came_numbers, numbers_if, packet_in};
+ghost use Rattle.frames_c.specs.Numbers.{received_numbers, numbers_if, packet_in};
 ghost use Rattle.frames_c.specs.Taking.{take_whole, whole_in, whole_of};
 ghost use Rattle.spw.specs.Rooms.{put_front};
 ghost use Rattle.spw.specs.declared.packets.TheConstants.{MAX_PACKET};
 
 use crate::byte_sums::bytes_sum;
-use crate::numbers::{BRIDGE, CameNumbers, PACKET, TIME};
+use crate::numbers::{BRIDGE, PACKET, ReceivedNumbers, TIME};
 use crate::room::PacketRoom;
 use arrayvec::ArrayVec;
 use frames::{Flag, HEAD_LENGTH, take_head};
@@ -116,9 +116,9 @@ impl Frames {
     }
 
     /// Ends a packet after that many bytes. Its bytes go to the front of the room, and nothing is held.
-    fn end_packet(&mut self, end: End, taken: u64, room: &mut [u8]) -> CameNumbers
+    fn end_packet(&mut self, end: End, taken: u64, room: &mut [u8]) -> ReceivedNumbers
         requires { MAX_PACKET ≤ length room.old }
-        ensures reported { result ≡ came_numbers taken (Some (received_of (Last end) self.old.held)) }
+        ensures reported { result ≡ received_numbers taken (Some (received_of (Last end) self.old.held)) }
         ensures room { room.new ≡ put_front room.old self.old.held }
         ensures following { self.new
             ≡ record { head = self.old.head; flag = self.old.flag; left = self.old.left; held = [] } }
@@ -127,7 +127,7 @@ impl Frames {
         put_front(room, bytes);
         let length = bytes.len() as u32;
         self.held.clear();
-        CameNumbers {
+        ReceivedNumbers {
             taken,
             length,
             kind: PACKET,
@@ -139,7 +139,7 @@ impl Frames {
 
     /// Ends a frame after that many bytes, and reports what is whole of what it brings, if anything is. The bytes of a
     /// packet go to the front of the room.
-    fn end(&mut self, taken: u64, room: &mut [u8]) -> Option<CameNumbers>
+    fn end(&mut self, taken: u64, room: &mut [u8]) -> Option<ReceivedNumbers>
         requires { MAX_PACKET ≤ length room.old }
         ensures reported { result ≡ numbers_if taken (whole_of (received_of self.old.flag self.old.held)) }
         ensures room { room.new
@@ -149,21 +149,21 @@ impl Frames {
         match Flag::from_code(self.code) {
             Flag::Last(end) => Some(self.end_packet(end, taken, room)),
             Flag::Part => None,
-            Flag::SendTime | Flag::GotTime => Some(CameNumbers {
+            Flag::SendTime | Flag::GotTime => Some(ReceivedNumbers {
                 kind: TIME,
-                ..CameNumbers::nothing(taken)
+                ..ReceivedNumbers::nothing(taken)
             }),
-            Flag::Other(flag) => Some(CameNumbers {
+            Flag::Other(flag) => Some(ReceivedNumbers {
                 kind: BRIDGE,
                 flag,
-                ..CameNumbers::nothing(taken)
+                ..ReceivedNumbers::nothing(taken)
             }),
         }
     }
 
     /// Takes a byte, the last of that many, and reports what came whole with it, if anything did. The bytes of a packet
     /// go to the front of the room.
-    fn step(&mut self, byte: u8, taken: u64, room: &mut [u8]) -> Option<CameNumbers>
+    fn step(&mut self, byte: u8, taken: u64, room: &mut [u8]) -> Option<ReceivedNumbers>
         requires { MAX_PACKET ≤ length room.old }
         ensures reported { result ≡ numbers_if taken (whole_in (comes self.old byte)) }
         ensures room { room.new ≡ put_front room.old (packet_in (whole_in (comes self.old byte))) }
@@ -180,10 +180,10 @@ impl Frames {
     /// Takes bytes up to the first with which something came whole, or all of them if nothing does, and reports how
     /// many, and what came. The bytes of a packet go to the front of the room. The condition is room for the longest
     /// packet.
-    pub fn take(&mut self, bytes: &[u8], room: &mut [u8]) -> CameNumbers
+    pub fn take(&mut self, bytes: &[u8], room: &mut [u8]) -> ReceivedNumbers
         requires { MAX_PACKET ≤ length room.old }
         ensures reported { result
-            ≡ came_numbers (take_whole self.old bytes.now).count (take_whole self.old bytes.now).received }
+            ≡ received_numbers (take_whole self.old bytes.now).count (take_whole self.old bytes.now).received }
         ensures room { room.new ≡ put_front room.old (packet_in (take_whole self.old bytes.now).received) }
         ensures read { self.new ≡ (take_whole self.old bytes.now).next }
     {
@@ -196,6 +196,6 @@ impl Frames {
             }
             rest = others;
         }
-        CameNumbers::nothing(taken)
+        ReceivedNumbers::nothing(taken)
     }
 }

@@ -59,10 +59,11 @@ of_received windows policy (Some received) before after held kept old new is = r
 -- lines that were taken in turn
 pub all_printed : (lines : List (List ℕ)) (before after : Deciding) (old new : Option (List ℕ)) → AreTaken DecidesLine lines before after old new
     → PrintsDecided before.decisions.items after.decisions.items old new
-all_printed [] before after old new all = nothing_more _ _ old new (ap (λ (d : Deciding). d.decisions.items) all.0) all.1
+all_printed [] before after old new all =
+    nothing_more before.decisions.items after.decisions.items old new (ap (λ (d : Deciding). d.decisions.items) all.0) all.1
 all_printed (line ∷ lines) before after old new all =
     then_more before.decisions.items all.0.decisions.items after.decisions.items old all.1 new
-    (of_received _ _ all.2.received _ _ _ _ old all.1 all.2.reported)
+    (of_received before.windows.now before.table all.2.received before.counts all.0.counts before.decisions.items all.0.decisions.items old all.1 all.2.reported)
     (all_printed lines all.0 after all.1 new all.3)
 
 -- if there was no decision before them, all are printed

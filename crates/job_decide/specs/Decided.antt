@@ -1,4 +1,4 @@
--- What is decided on a packet, and the tickets that were drawn.
+-- The decision on a packet, and the tickets that were drawn.
 use Rattle.std.specs.Prelude.{◌≡◌, ◌++◌, ℕ, List, [], Option, Some, None, option_map, string_bytes}
 use Rattle.machine.specs.declared.calls.Call.{Call}
 use Rattle.machine.specs.Memory.{Header, header}
@@ -27,7 +27,7 @@ use Rattle.job_parts.specs.declared.stops.LineEnd.TheVariants.{NoMemory}
 use Rattle.job_decide.specs.DecideJob.{match_line, status_text}
 use Rattle.job_decide.specs.Tables.{decision_line_of}
 use Rattle.job_decide.specs.declared.decisions.DecidedBy.{DecidedBy}
-use Rattle.job_decide.specs.declared.decisions.DecidedBy.TheVariants.{Discarded, Header, Table}
+use Rattle.job_decide.specs.declared.decisions.DecidedBy.TheVariants.{Discarded, Header as ByHeader, Table as ByTable}
 use Rattle.job_decide.specs.declared.decisions.PacketDecision.{PacketDecision}
 
 -- why the rules before the one that decides do not match, if that one refuses
@@ -37,9 +37,9 @@ reported_passed InvalidKey rules header draws = passed_rules rules header draws
 reported_passed NotAuthorised rules header draws = passed_rules rules header draws
 reported_passed InvalidLogicalAddress rules header draws = passed_rules rules header draws
 
--- what decides, if the table does: the line of the rule, if there is one, and the verdict; the rules are in these lines
+-- by what the table decides: the line of the rule, if there is one, and the verdict; the rules are in these lines
 abbrev pub decided_by : (lines : List ℕ) → Match → DecidedBy
-decided_by lines found = Table (option_map (λ number. decision_line_of lines number) found.rule) found.verdict
+decided_by lines found = ByTable (option_map (λ number. decision_line_of lines number) found.rule) found.verdict
 
 -- the decision is by what the table of a port finds, and its line says so. Its rules are in these lines
 pub record ReportsMatch (port : ℕ) (lines : List ℕ) (found : Match) (made : PacketDecision) : Type 0 where
@@ -47,12 +47,15 @@ pub record ReportsMatch (port : ℕ) (lines : List ℕ) (found : Match) (made : 
   pub by : made.by ≡ decided_by lines found
   pub line : string_bytes made.line ≡ match_line port lines found
 
--- the decision is by the rule by which a table of a port decides on the header of the command, with its line among
--- these, as the counts answer its draws. The counts are those after its draws
+-- a table of a port decides on the header of the command, as the counts answer its draws. The decision is by that rule,
+-- with its line among these, and the counts are those after its draws
 pub record DecidesByTable (port : ℕ) (rules : List Rule) (lines : List ℕ) (c : CommandValue) (before after : List ℕ)
     (made : PacketDecision) : Type 0 where
-  pub reports : ReportsMatch port lines
-      (matched rules (header c.front c.tail) (reported_on before rules (header c.front c.tail))) made
+  pub port_is : made.port ≡ port
+  pub by : made.by
+      ≡ decided_by lines (matched rules (header c.front c.tail) (reported_on before rules (header c.front c.tail)))
+  pub line : string_bytes made.line
+      ≡ match_line port lines (matched rules (header c.front c.tail) (reported_on before rules (header c.front c.tail)))
   pub counts : after
       ≡ after_draws before (decision rules (header c.front c.tail) (reported_on before rules (header c.front c.tail))).0
 
@@ -65,7 +68,7 @@ DecidesByPolicy port policy c before after made =
 -- it
 pub record ReportsStatus (port : ℕ) (status : Status) (made : PacketDecision) : Type 0 where
   pub port_is : made.port ≡ port
-  pub by : made.by ≡ Header status
+  pub by : made.by ≡ ByHeader status
   pub reason : List ℕ
   pub line : string_bytes made.line ≡ status_text port status ++ reason
   pub only : string_bytes made.why ≡ []

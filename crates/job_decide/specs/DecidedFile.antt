@@ -108,13 +108,13 @@ module _ {S : Type 0} (reads : ReadsFile S) (words : DecideWords) where
     pub held : HoldsTableFault before after fault
     pub reported : PrintsTableFault fault old new
 
-  -- what `decide` reads, prints and gives, by its exit status: 0 if all lines were taken; 1 if the table has a fault, and
-  -- then there are no decisions
+  -- the job's reads, what it prints and what it gives, by its exit status. It is 0 if all lines were taken. It is 1 if
+  -- the table has a fault, and then there are no decisions
   abbrev pub DecidesAs : (before after : S) → (old new : Option (List ℕ)) → DecideEnd → ExitStatus → Type 0
   DecidesAs before after old new end Done = DecidesFile before after old new end
   DecidesAs before after old new end Failed = (end.decisions ≡ None) × PrintsDecideFault before after old new
   DecidesAs before after old new end Misused = ⊥
 
-  -- the same of an end that no fault is
+  -- what `decide` reads, prints and gives if no fault ends it
   abbrev pub DecidesJob : (before after : S) → (old new : Option (List ℕ)) → DecideEnd → Type 0
   DecidesJob before after old new end = DecidesAs before after old new end end.status

@@ -28,7 +28,7 @@ DecidesReceived windows policy None before after held kept old new = (after ≡ 
 DecidesReceived windows policy (Some received) before after held kept old new =
     KeepsDecision windows policy received before after held kept old new
 
--- the line was taken by the table, which stays, as the node's windows do. What comes of it was printed and kept
+-- the line was taken by the table, which stays, as the node's windows do, and what comes of it was printed and kept
 pub record DecidesLine (line : List ℕ) (before after : Deciding) (old new : Option (List ℕ)) : Type 0 where
   pub received : Option (ℕ × Cargo)
   pub fed : IsFed line before.feeds after.feeds received

@@ -1,4 +1,4 @@
--- What is printed of the packets on which was decided.
+-- The lines that are printed of decisions.
 use Rattle.std.specs.Prelude.{ℕ, List, ◌++◌, string_bytes}
 use Rattle.std.specs.List.{flat_map}
 use Rattle.job_decide.specs.declared.decisions.PacketDecision.{PacketDecision}

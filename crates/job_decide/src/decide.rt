@@ -55,7 +55,7 @@ pub struct DecideWords {
 pub struct DecideEnd {
     /// The exit status.
     pub status: ExitStatus,
-    /// What was decided on each packet, in order, if all lines were taken. What was printed are their lines.
+    /// The decision on each packet, in order, if all lines were taken. The job printed the lines of these.
     pub decisions: Option<Vec<PacketDecision>>,
 }
 
@@ -201,6 +201,7 @@ fn decide_lines<'a, W: Write>(
 ///
 /// Faults are found in this order: those of the file of lines (`CannotRead`, also if it is not UTF-8), of the file of
 /// the table, and then of each line. `NoMemory` if memory was refused.
+#[tactic(auto, using(crate::proofs::Printing::all_of_them))]
 pub fn decide_file<'a, F: Files, W: Write>(
     alloc: Global,
     words: &'a DecideWords,

@@ -1,4 +1,4 @@
-//! What was decided on a packet, and what is printed of it.
+//! Decisions on packets, and how they are printed.
 
 ghost use Rattle.std.specs.Prelude.{◌≡◌, ◌<◌, ◌++◌, ◌∷◌, [], IfErr, OnOk};
 ghost use Rattle.std.specs.Vec.{vec_capacity, vec_len};
@@ -27,7 +27,7 @@ pub enum DecidedBy {
     Discarded(Discard),
 }
 
-/// What was decided on a packet, and what is printed of it.
+/// A decision on a packet, and what is printed of it.
 #[derive(Debug, Drop)]
 pub struct PacketDecision {
     /// The port at which the packet came.
@@ -69,8 +69,8 @@ pub(crate) fn print_and_keep<W: Write>(
     made: PacketDecision,
     out: &mut W,
 ) -> Result<(), LineStop>
-    ensures kept { OnOk result (decisions.new.items ≡ decisions.old.items ++ made ∷ []) }
-    ensures printed { OnOk result (Prints W.contents out.old out.new (decision_text made)) }
+    ensures kept { OnOk result ((decisions.new.items ≡ decisions.old.items ++ made ∷ [])
+        × Prints W.contents out.old out.new (decision_text made)) }
     ensures stops { IfErr result (StopsLineBy (IsMemoryRefused (W.contents out.old) (W.contents out.new))) }
 {
     decisions.reserve(1)?;

@@ -1,4 +1,4 @@
-//! What is decided on a packet.
+//! How a packet is decided on.
 
 ghost use Rattle.std.specs.Prelude.{◌≡◌, ◌++◌, IfOk, OnOk, codes, decimal, option_map, string_bytes};
 ghost use Rattle.machine.specs.Memory.{header};
@@ -95,7 +95,7 @@ fn add_ticket(text: &mut String, ticket: Option<Call>) -> Result<(), AllocError>
 /// Adds the verdict after the rule that decides.
 fn add_verdict(text: &mut String, verdict: Verdict) -> Result<(), AllocError>
     ensures { OnOk result (string_bytes text.new
-        ≡ string_bytes text.old ++ (codes " verdict " ++ decimal (verdict_number verdict))) }
+        ≡ string_bytes text.old ++ codes " verdict " ++ decimal (verdict_number verdict)) }
 {
     let number = verdict.number();
     write!(text, " verdict {number}")
@@ -112,7 +112,7 @@ fn match_text(alloc: Global, port: u8, lines: &[usize], found: Match) -> Result<
     Ok(text)
 }
 
-/// What decides, if the table does.
+/// By what the table decides.
 fn decided_by(lines: &[usize], found: Match) -> DecidedBy
     ensures { result ≡ decided_by lines.now found }
 {
@@ -217,7 +217,7 @@ fn decide_admitted(
         found.verdict,
         passed.as_slice(),
     )?;
-    match_decision(alloc, port, lines.as_slice(), found, why)
+    Ok(match_decision(alloc, port, lines.as_slice(), found, why)?)
 }
 
 /// The decision of a check of the header on a command.
@@ -259,7 +259,7 @@ fn decide_on(
 {
     match header_check(command, windows) {
         Ok(_place) => decide_admitted(alloc, at, counts, command),
-        Err(fault) => fault_decision(alloc, at.port, fault),
+        Err(fault) => Ok(fault_decision(alloc, at.port, fault)?),
     }
 }
 
@@ -284,6 +284,6 @@ pub fn decide_packet(
             let at = PortPolicy { policy, port };
             decide_on(alloc, windows, at, counts, &command)
         }
-        Err(discard) => discard_decision(alloc, port, discard),
+        Err(discard) => Ok(discard_decision(alloc, port, discard)?),
     }
 }

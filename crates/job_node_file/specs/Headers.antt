@@ -24,8 +24,8 @@ each_from text place (item ∷ items) = text place item ++ each_from text (place
 -- ---- bytes
 
 -- what comes after a byte: a line feed if its row ends, and else a space
-abbrev pub behind_byte : (ends : Bool) → List ℕ
-behind_byte ends = if ends then codes "\n" else codes " "
+abbrev pub byte_separator : (ends : Bool) → List ℕ
+byte_separator ends = if ends then codes "\n" else codes " "
 
 -- a row ends after this byte: it is the 16th, or the last of all
 abbrev pub ends_row : (count place : ℕ) → Bool
@@ -33,7 +33,7 @@ ends_row count place = (place % 16 == 15) || (place + 1 == count)
 
 -- the byte at a place, of an array with this count of bytes
 abbrev pub byte_text : (count place byte : ℕ) → List ℕ
-byte_text count place byte = codes "0x" ++ hex 2 byte ++ codes "," ++ behind_byte (ends_row count place)
+byte_text count place byte = codes "0x" ++ hex 2 byte ++ codes "," ++ byte_separator (ends_row count place)
 
 -- the bytes of an array, and its end; no bytes are a zero
 abbrev pub c_bytes : List ℕ → List ℕ

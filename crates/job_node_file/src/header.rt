@@ -1,7 +1,7 @@
 //! A node as a header of C.
 
 ghost use Rattle.std.specs.Prelude.{◌≡◌, ◌++◌, IfOk, OnOk, length, option_map, string_bytes};
-ghost use Rattle.job_node_file.specs.Headers.{IsHeader, bank_row, banks_head, behind_byte, byte_text, bytes_text, c_bytes, content_array, content_line, content_row, contents_head, contents_text, each_from, ends_row, front_text, head_text, image_array, image_head, is_peak, map_cells, map_row, map_rows, maps_head, numbers_of, numbers_text, program_row, publish_array, publish_line, publish_row, publish_rows, publishes_head, publishes_text, slot_row};
+ghost use Rattle.job_node_file.specs.Headers.{IsHeader, bank_row, banks_head, byte_separator, byte_text, bytes_text, c_bytes, content_array, content_line, content_row, contents_head, contents_text, each_from, ends_row, front_text, head_text, image_array, image_head, is_peak, map_cells, map_row, map_rows, maps_head, numbers_of, numbers_text, program_row, publish_array, publish_line, publish_row, publish_rows, publishes_head, publishes_text, slot_row};
 
 use crate::hex::{EightDigits, TwoDigits};
 use crate::pool::pool_of;
@@ -27,8 +27,8 @@ const HEAD: &str = "\
 ";
 
 /// What comes after a byte: a line feed if its row ends, and else a space.
-fn behind_byte(ends: bool) -> &'static str
-    ensures { result.now ≡ behind_byte ends }
+fn byte_separator(ends: bool) -> &'static str
+    ensures { result.now ≡ byte_separator ends }
 {
     if ends { "\n" } else { " " }
 }
@@ -45,7 +45,7 @@ fn add_byte(text: &mut String, count: usize, place: usize, byte: u8) -> Result<(
     ensures { OnOk result (string_bytes text.new ≡ string_bytes text.old ++ byte_text count place byte) }
 {
     let digits = TwoDigits(byte);
-    let following = behind_byte(ends_row(count, place));
+    let following = byte_separator(ends_row(count, place));
     write!(text, "0x{digits},{following}")
 }
 

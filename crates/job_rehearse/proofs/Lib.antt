@@ -5,3 +5,4 @@ mod Loading
 mod Starting
 mod Trying
 mod Reporting
+mod Asking

@@ -47,8 +47,7 @@ back_line InPart = (codes "NEW locks loads out", Failed)
 back_line LockedOut = (codes "NEW locks loads out", Failed)
 back_line NotLoaded = (codes "OLD is not loaded", Failed)
 
--- what is printed of whose loads the new policy lets pass, if these are the rows of them: a line for each row, or that
--- nobody loads
+-- the text of the rows of whose loads the new policy lets pass: a line for each row, or that nobody loads
 abbrev pub any_text : List LoaderRow → List ℕ
 any_text [] = codes "loads by nobody" ++ 10 ∷ []
 any_text (row ∷ rows) = rows_text (codes "loads") (row ∷ rows)
@@ -198,8 +197,8 @@ module _ {S : Type 0} (reads : ReadsFile S) (words : RehearseWords) where
   DoesRehearsal (One named) before after old new end = (end.loaders ≡ None) × DoesOne named before after old new end.status
   DoesRehearsal Any before after old new end = DoesAny before after old new end
 
-  -- what `rehearse` reads, prints and gives if no fault ends it. Its exit status is 0 if the new policy is loaded and
-  -- lets the old one be loaded again, or if it lets somebody load it, else 1
+  -- what `rehearse` reads, prints and gives if no fault ends it. Its status is 0 if the new policy is loaded and lets the
+  -- old one be loaded again, or lets somebody load it, else 1
   abbrev pub RehearsesFile : (before after : S) → (old new : Option (List ℕ)) → RehearseEnd → Type 0
   RehearsesFile before after old new end = DoesRehearsal words.loaders before after old new end
 

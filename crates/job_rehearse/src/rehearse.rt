@@ -305,18 +305,19 @@ fn rehearse_one<'a, F: Files, W: Write>(
     rehearse_at(alloc, words, &place, named, files, out)
 }
 
-/// What is printed of whose loads the new policy lets pass, if these are the rows of them.
+/// The text of the rows of whose loads the new policy lets pass.
+#[tactic(auto, using(crate::proofs::Asking::text_of_none, crate::proofs::Asking::text_of_some))]
 fn any_text(alloc: Global, rows: &[LoaderRow]) -> Result<String, AllocError>
     ensures { IfOk result (λ text. string_bytes text ≡ any_text rows.now) }
 {
     if rows.is_empty() {
-        String::from_str(alloc, "loads by nobody\n")
-    } else {
-        rows_text(alloc, "loads", rows)
+        return Ok(String::from_str(alloc, "loads by nobody\n")?);
     }
+    Ok(rows_text(alloc, "loads", rows)?)
 }
 
 /// The exit status if these are the rows.
+#[tactic(auto, using(crate::proofs::Asking::status_of_none, crate::proofs::Asking::status_of_some))]
 fn any_status(rows: &[LoaderRow]) -> ExitStatus
     ensures { result ≡ any_status rows.now }
 {
@@ -412,8 +413,8 @@ fn rehearse_named<'a, F: Files, W: Write>(
 
 /// Rehearses the load of the policy of a file at a node on which that of another judges, and the way back. It prints
 /// what becomes of each packet of the loads, and whether the way back is open. Or it asks the new policy whose loads of
-/// the old one it lets pass, and loads nothing; then it prints the rows that it gives. If a table has a fault, it prints
-/// that with the name of its file and the place, and the job failed.
+/// the old one it lets pass, and loads nothing. Then it gives the rows of that, and prints them. If a table has a fault,
+/// it prints that with the name of its file and the place, and the job failed.
 ///
 /// # Errors
 ///

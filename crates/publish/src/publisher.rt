@@ -40,7 +40,7 @@ impl<J: Family, R: Wait + Drop> Model for Publisher<J, R> {
 
     ghost view = { λ p. p.writer.desk.shown.value.programs };
 
-    ghost invariant = { λ p. (p.history ≡ p.writer.desk.shown.value.programs) × (p.writer.desk.shown.value.family ≡ J.book) × (drop p.writer.following p.writer.log.items ≡ []) };
+    ghost invariant = { λ p. (p.history ≡ p.writer.desk.shown.value.programs) × (p.writer.desk.shown.value.family ≡ J.book) × (drop p.writer.behind p.writer.log.items ≡ []) };
 }
 
 impl<J: Family, R: Wait + Drop> Drop for Publisher<J, R> {
@@ -197,13 +197,13 @@ fn flushed<J: Family, R: Wait>(
     writer: Writer<Table, Table, PublishedView, InFamily<J>>,
 ) -> (Writer<Table, Table, PublishedView, InFamily<J>>, ())
     requires family { (fold (λ _ t. t) writer.desk.shown.value
-        (drop writer.following writer.log.items)).family
+        (drop writer.behind writer.log.items)).family
         ≡ J.book }
     requires longer { IsPrefix writer.desk.shown.value.programs
-        (fold (λ _ t. t) writer.desk.shown.value (drop writer.following writer.log.items)).programs }
+        (fold (λ _ t. t) writer.desk.shown.value (drop writer.behind writer.log.items)).programs }
     ensures shown { result.0.desk.shown.value
-        ≡ fold (λ _ t. t) writer.desk.shown.value (drop writer.following writer.log.items) }
-    ensures pending { drop result.0.following result.0.log.items ≡ [] }
+        ≡ fold (λ _ t. t) writer.desk.shown.value (drop writer.behind writer.log.items) }
+    ensures pending { drop result.0.behind result.0.log.items ≡ [] }
 {
     let mut writer = writer;
     for _ in rt.forever() {
@@ -222,11 +222,11 @@ fn shown<J: Family, R: Wait>(
     writer: Writer<Table, Table, PublishedView, InFamily<J>>,
     table: Table,
 ) -> (Writer<Table, Table, PublishedView, InFamily<J>>, ())
-    requires pending { drop writer.following writer.log.items ≡ [] }
+    requires pending { drop writer.behind writer.log.items ≡ [] }
     requires family { table.family ≡ J.book }
     requires longer { IsPrefix writer.desk.shown.value.programs table.programs }
     ensures shown { result.0.desk.shown.value ≡ table }
-    ensures pending { drop result.0.following result.0.log.items ≡ [] }
+    ensures pending { drop result.0.behind result.0.log.items ≡ [] }
 {
     let mut writer = writer;
     let mut table = table;

@@ -9,7 +9,7 @@ ghost use Rattle.frames_c.specs.Calls.{OpensFrames, TakesFrames};
 ghost use Rattle.single_node_c.specs.declared.codes.TheConstants.{NO_NODE, OK};
 ghost use Rattle.spw.specs.declared.packets.End.TheVariants.{Eop};
 
-use frames_c::{CameNumbers, FramesHandle};
+use frames_c::{FramesHandle, ReceivedNumbers};
 use std::alloc::Global;
 
 /// Opens a reader of frames, which takes all memory that it needs. A handle that holds one keeps it.
@@ -29,7 +29,7 @@ pub extern "C" fn sandbar_frames_take(
     handle: &mut FramesHandle,
     bytes: &[u8],
     packet: &mut [u8],
-    received: &mut CameNumbers,
+    received: &mut ReceivedNumbers,
 ) -> u32
     ensures { TakesFrames bytes.now packet.old packet.new received.old received.new
         handle.old.kept handle.new.kept result }

@@ -1,5 +1,5 @@
 use Rattle.std.proofs.Common.{arith, sym}
-use Rattle.chart_lines.proofs.Behind.{no_others, other_more}
+use Rattle.chart_lines.proofs.After.{no_others, other_more}
 use Rattle.chart_lines.proofs.witnesses.first_like.Goals as goal
 
 pub loop-number-init : goal.loop-number-init

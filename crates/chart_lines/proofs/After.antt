@@ -45,8 +45,8 @@ shifted (line ∷ lines) (suc start) (suc place) within d p few there others =
     ∙ ap (λ (t : Bool). (lies_in own.region p && (not own.rest || t)) && lies_in within p)
     (sym (not_taken line own (take place lines) p (All-head (λ (other : ChartLine). have_same_words other.region own.region ≡ false) line (take start lines) others)))
 
-pub point_behind : (lines : List ChartLine) (start place : ℕ) (within : PointRegion) (found : Option Point) → start ≤ place → place < length lines → AreOthers lines place start
+pub point_after : (lines : List ChartLine) (start place : ℕ) (within : PointRegion) (found : Option Point) → start ≤ place → place < length lines → AreOthers lines place start
     → MatchOption found (HasNoPointIn (drop start lines) (place - start) within) (IsPointIn (drop start lines) (place - start) within)
     → MatchOption found (HasNoPointIn lines place within) (IsPointIn lines place within)
-point_behind lines start place within None few there others none = λ d p has. sym (shifted lines start place within d p few there (others d)) ∙ none d p has
-point_behind lines start place within (Some p) few there others is = record { command = is.command; lies = λ d. sym (shifted lines start place within d p few there (others d)) ∙ is.lies d }
+point_after lines start place within None few there others none = λ d p has. sym (shifted lines start place within d p few there (others d)) ∙ none d p has
+point_after lines start place within (Some p) few there others is = record { command = is.command; lies = λ d. sym (shifted lines start place within d p few there (others d)) ∙ is.lies d }
