@@ -2,7 +2,7 @@
 use Rattle.std.proofs.Common.{◌≡◌, ◌++◌, ◌∙◌, inl, inr, ◌∷◌, [], ℕ, zero, suc, List, Option, None, Some, All, ap, subst, sym}
 use Rattle.std.specs.Prelude.{map}
 use Rattle.std.proofs.lemmas.List.{append-nil}
-use Rattle.std.proofs.lemmas.List.Elements.{All-push, All-set}
+use Rattle.std.proofs.lemmas.List.Elements.{All-nil, All-push, All-set, All-tail}
 use Rattle.charts.specs.declared.lines.ChartLine.{ChartLine}
 use Rattle.regions.specs.declared.regions.PointRegion.{PointRegion}
 use Rattle.rmap.specs.Windows.{WindowsValue}
@@ -19,9 +19,9 @@ use Rattle.job_charts.specs.declared.different_rows.Difference.{Difference}
 added : (ports : List ℕ) (said : RowContentValue) (before after : List RowValue) → HasChange (row_of ports said) → All HasChange before → AddsRow ports said before after → All HasChange after
 added ports said before after own are (inl joins) =
     let d : RowValue = row_of ports said in
-    subst (λ (rows : List RowValue). All HasChange rows) (sym (joins.is d)) (All-set before joins.place _ own are)
+    subst (λ (rows : List RowValue). All HasChange rows) (sym (joins.is d)) (All-set HasChange before joins.place _ own are)
 added ports said before after own are (inr (others, is)) =
-    subst (λ (rows : List RowValue). All HasChange rows) (sym is) (All-push before (row_of ports said) are own)
+    subst (λ (rows : List RowValue). All HasChange rows) (sym is) (All-push HasChange before (row_of ports said) are own)
 
 line_kept : (ports : List ℕ) (old new : AskedValue) (lines : List ChartLine) (place : ℕ) (before after : List RowValue) → All HasChange before
     → PrintsLine ports old new lines place before after → All HasChange after
@@ -50,8 +50,8 @@ port_kept asked old new port before after are (inl (charted, is)) = lines_kept a
 port_kept asked old new port before after are (inr (not, is)) = subst (λ (rows : List RowValue). All HasChange rows) (sym is) are
 
 pub are_changed : (asked : PointRegion) (port : Option ℕ) (old new : PolicyValue) (rows : List RowValue) → AreDifferenceRows asked port old new rows → All HasChange rows
-are_changed asked None old new rows is = all_kept _ (λ port before after are at. port_kept asked old new port before after are at) 32 [] rows tt is
-are_changed asked (Some port) old new rows is = lines_kept asked (port ∷ []) (asked_at old port) (asked_at new port) [] rows tt is
+are_changed asked None old new rows is = all_kept _ (λ port before after are at. port_kept asked old new port before after are at) 32 [] rows (All-nil HasChange) is
+are_changed asked (Some port) old new rows is = lines_kept asked (port ∷ []) (asked_at old port) (asked_at new port) [] rows (All-nil HasChange) is
 
 -- ---- the differences of the first rows, and the rows that are left
 
@@ -68,15 +68,15 @@ more (first ∷ found) own row rest is = ap (λ (rows : List RowValue). first.ro
 pub one_more : (windows : WindowsValue) (all : List RowValue) (found now : List Difference) (left rest : List RowValue) (row : RowValue) (own : Difference)
     → AreSoFar windows all found left → left ≡ row ∷ rest → IsDifference windows row own → now ≡ found ++ own ∷ [] → AreSoFar windows all now rest
 one_more windows all found now left rest row own are steps is pushed = record {
-  rows = ap (λ (f : List Difference). map (λ (o : Difference). o.row) f ++ rest) pushed ∙ more found own row rest is.row
+  rows = ap (λ (f : List Difference). map (λ (o : Difference). o.row) f ++ rest) pushed ∙ more found own row rest is.same
       ∙ ap (λ (l : List RowValue). map (λ (o : Difference). o.row) found ++ l) (sym steps) ∙ are.rows;
-  shown = subst (λ (f : List Difference). All (IsShown windows) f) (sym pushed) (All-push found own are.shown is.shown);
-  changes = (subst (λ (l : List RowValue). All HasChange l) steps are.changes).1;
+  shown = subst (λ (f : List Difference). All (IsShown windows) f) (sym pushed) (All-push (IsShown windows) found own are.shown is.shown);
+  changes = All-tail HasChange row rest (subst (λ (l : List RowValue). All HasChange l) steps are.changes);
 }
 
 pub all_found : (windows : WindowsValue) (all : List RowValue) (found : List Difference) (left : List RowValue) → AreSoFar windows all found left → left ≡ []
     → AreDifferences windows all found
 all_found windows all found left are empty = record {
-  rows = sym (append-nil (map (λ (o : Difference). o.row) found)) ∙ ap (λ (l : List RowValue). map (λ (o : Difference). o.row) found ++ l) (sym empty) ∙ are.rows;
+  same = sym (append-nil (map (λ (o : Difference). o.row) found)) ∙ ap (λ (l : List RowValue). map (λ (o : Difference). o.row) found ++ l) (sym empty) ∙ are.rows;
   shown = are.shown;
 }

@@ -17,10 +17,10 @@ pub record IsShown (windows : WindowsValue) (own : Difference) : Type 0 where
 
 -- the difference of a row
 pub record IsDifference (windows : WindowsValue) (row : RowValue) (own : Difference) : Type 0 where
-  pub row : own.row ≡ row
+  pub same : own.row ≡ row
   pub shown : IsShown windows own
 
 -- the differences of rows, in their order: none is left out
 pub record AreDifferences (windows : WindowsValue) (rows : List RowValue) (found : List Difference) : Type 0 where
-  pub rows : map (λ own. own.row) found ≡ rows
+  pub same : map (λ own. own.row) found ≡ rows
   pub shown : All (IsShown windows) found

@@ -20,7 +20,7 @@ pub struct Difference {
 }
 
 /// A row with the packet of its change, for a node with these windows.
-fn difference(alloc: Global, windows: &Windows, row: ChartRow) -> Result<Difference, AllocError>
+fn difference_of(alloc: Global, windows: &Windows, row: ChartRow) -> Result<Difference, AllocError>
     requires { HasChange row }
     ensures { IfOk result (IsDifference windows.now row) }
 {
@@ -51,7 +51,7 @@ pub fn differences_of(
 {
     let mut found = Vec::new(alloc);
     for row in rows {
-        found.push(difference(alloc, windows, row)?)?;
+        found.push(difference_of(alloc, windows, row)?)?;
     }
     Ok(found)
 }

@@ -59,7 +59,7 @@ pub one_left : {X : Type 0} (code : Code X) (old now next : List ℕ) (value : X
     → Adds code value now next
     → AreLeft code old values next left
 one_left code old now next value values left are adds = record {
-  fits = λ own. are.fits (All-cons value left adds.fits own);
+  fits = λ own. are.fits (All-cons code.fits value left adds.fits own);
   is = ap (λ (b : List ℕ). b ++ each_bytes code.bytes left) adds.is
       ∙ append_assoc now (code.bytes value) (each_bytes code.bytes left)
       ∙ are.is;
@@ -67,6 +67,6 @@ one_left code old now next value values left are adds = record {
 
 pub all_left : {X : Type 0} (code : Code X) (old now : List ℕ) (values left : List X) → AreLeft code old values now left → left ≡ [] → AddsEach code values old now
 all_left {X} code old now values left are empty = record {
-  fits = are.fits (subst (λ (l : List X). All code.fits l) (sym empty) All-nil);
+  fits = are.fits (subst (λ (l : List X). All code.fits l) (sym empty) (All-nil code.fits));
   is = sym (append-nil now) ∙ ap (λ (l : List X). now ++ each_bytes code.bytes l) (sym empty) ∙ are.is;
 }

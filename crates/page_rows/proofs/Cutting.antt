@@ -77,9 +77,9 @@ module _ (law : ArePiecesCut) where
   each_cut one cut [] (y ∷ ys) rest more fits small long same = absurd (omega (arith, long))
   each_cut one cut (x ∷ xs) [] rest more fits small long same = absurd (omega (arith, long))
   each_cut {X} one cut (x ∷ xs) (y ∷ ys) rest more fits small long same =
-      let first = cut x y (each_bytes one.bytes xs ++ rest) (each_bytes one.bytes ys ++ more) (All-head x xs fits) (All-head y ys small)
+      let first = cut x y (each_bytes one.bytes xs ++ rest) (each_bytes one.bytes ys ++ more) (All-head one.fits x xs fits) (All-head one.fits y ys small)
       (sym (append_assoc (one.bytes x) (each_bytes one.bytes xs) rest) ∙ same ∙ append_assoc (one.bytes y) (each_bytes one.bytes ys) more) in
-      let later = each_cut one cut xs ys rest more (All-tail x xs fits) (All-tail y ys small) (omega (arith, long)) first.1 in
+      let later = each_cut one cut xs ys rest more (All-tail one.fits x xs fits) (All-tail one.fits y ys small) (omega (arith, long)) first.1 in
       (ap₂ (λ (v : X) (vs : List X). v ∷ vs) first.0 later.0, later.1)
 
   list_cut : {X : Type 0} (one : Code X) → IsCutOnce one → IsCutOnce (list_code one)

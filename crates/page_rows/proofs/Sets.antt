@@ -101,10 +101,12 @@ module _ (set other : ByteSet) where
       (moved (8 * (byte / 8) + byte % 8) byte whole (bit_at (8 * (byte / 8)) (byte % 8) few (byte_of 32 (byte / 8) place same)))
 
 pub sets_read : AreSetsRead
+unfolding set_bytes
 sets_read set other same byte less = read set other same byte less
 
 -- a set was added, byte by byte
 pub set_added : (set : ByteSet) (old now : List ℕ) (place : ℕ) → place ≡ 32 → now ≡ old ++ set_bytes_below set place → Adds set_code (set_bytes set) old now
+unfolding set_bytes
 set_added set old now place all is = record {
   fits = length_below set 32;
   is = is ∙ ap (λ (n : ℕ). old ++ set_bytes_below set n) all;

@@ -26,7 +26,7 @@ set_bytes_below set zero = []
 set_bytes_below set (suc place) = set_bytes_below set place ++ byte_at set (8 * place) ∷ []
 
 -- the 32 bytes of a set
-abbrev pub set_bytes : ByteSet → List ℕ
+unfoldable pub set_bytes : ByteSet → List ℕ
 set_bytes set = set_bytes_below set 32
 
 -- sets with the same 32 bytes have the same bytes
