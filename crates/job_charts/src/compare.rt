@@ -322,8 +322,8 @@ fn print_differences<'a, W: Write>(
     new: &Policy,
     out: &mut W,
 ) -> Result<Vec<Difference>, JobStop<'a>>
-    ensures done { IfOk result (λ found. PrintsDifferences asked.now words.now.asking.port words.now.windows old.now new.now
-        found.items (W.contents out.old) (W.contents out.new)) }
+    ensures done { IfOk result (λ found. PrintsDifferences asked.now words.now.asking.port words.now.windows
+        old.now new.now (W.contents out.old) (W.contents out.new) found.items) }
     ensures stops { IfErr result (StopsBy (λ fault. fault ≡ NoMemory)) }
     ensures quiet { IfErr result (StopsBy (λ _. W.contents out.new ≡ W.contents out.old)) }
 {

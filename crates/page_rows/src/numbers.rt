@@ -96,7 +96,6 @@ fn byte_at(set: &ByteSet, from: u8) -> u8
 }
 
 /// Adds a set of bytes.
-#[tactic(auto, using(crate::proofs::Sets::set_added))]
 pub(crate) fn add_set(bytes: &mut Vec<u8>, set: &ByteSet) -> Result<(), AllocError>
     ensures { OnOk result (Adds set_code (set_bytes set.now) bytes.old.items bytes.new.items) }
 {
