@@ -25,8 +25,8 @@ no_link = record {
   lost = λ link. false;
 }
 
--- the words were done over a desk with the files of the folder, on which nothing was printed, and which has no rows; and no
--- thread can start. What is left is the status, what was printed, the rows of which it was printed, and the files
+-- the words were done over a desk with the files of the folder, which has no output and no rows, and no thread can
+-- start. What is left is the status, what was printed, the rows of which it was printed, and the files
 pub record DoesWords (words : List Text) (before : FolderValue) (left : Left) : Type 0 where
   pub start : PageDesk
   pub stop : PageDesk

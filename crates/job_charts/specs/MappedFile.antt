@@ -72,8 +72,7 @@ module _ {S : Type 0} (reads : ReadsFile S) (words : MapWords) where
     pub reported : PrintsTableFault fault old new
 
   -- what `map` reads and prints, and with which status it ends, by the map that it gives. The status is 0 if the map was
-  -- printed to its end, and 1 if it has more lines than are to be printed at most. It is 1, and there is no map, if the
-  -- table has a fault
+  -- printed to its end, and 1 if it has more lines than that. It is 1, and there is no map, if the table has a fault
   abbrev pub MapsAs : (before after : S) → (old new : Option (List ℕ)) → ExitStatus → (chart : Option MapRows) → Type 0
   MapsAs before after old new status (Some chart) = (status ≡ map_status chart.is_whole) × MapsTable before after old new chart
   MapsAs before after old new status None = (status ≡ Failed) × PrintsMapFault before after old new

@@ -60,12 +60,12 @@ abbrev pub fate_in : Option HeaderFault → PacketFate
 fate_in None = Decided
 fate_in (Some fault) = Answered (header_status fault)
 
--- what a node with these windows does with a packet that is no command for that reason, or a command
+-- the fate at a node with these windows of a packet that is no command for that reason, or of a command
 abbrev pub fate_by : WindowsValue → Option Discard → Cargo → PacketFate
 fate_by windows (Some discard) p = Discarded
 fate_by windows None p = fate_in (header_check (command_of p) windows)
 
--- what such a node does with a packet: it brings it to its table if it is a command that no check of its header answers
+-- the fate of a packet at such a node
 abbrev pub fate_of : WindowsValue → Cargo → PacketFate
 fate_of windows p = fate_by windows (discard_of p.bytes) p
 

@@ -290,7 +290,7 @@ fn text_of_differences(
     }
 }
 
-/// Where two tables decide differently, of the commands that are asked of, with a packet for each difference.
+/// The differences of two tables, of the commands that are asked of, each with its packet.
 #[tactic(auto, using(crate::proofs::Changed::are_changed))]
 fn rows_of_tables(
     alloc: Global,
@@ -313,7 +313,7 @@ fn rows_of_tables(
     differences_of(alloc, &words.windows, rows)
 }
 
-/// Prints where two tables decide differently, and gives it.
+/// Prints the differences of two tables, and gives them.
 fn print_differences<'a, W: Write>(
     alloc: Global,
     words: &CompareWords,

@@ -149,7 +149,7 @@ pub fn map_job(alloc: Global, found: &ArgMatches) -> Result<MapWords, UsageFault
     })
 }
 
-/// What a map has, of which all is printed.
+/// A map, all of which is printed.
 #[derive(Debug, Drop)]
 pub struct MapRows {
     /// Its rows, at most as many as lines are to be printed.
@@ -239,8 +239,7 @@ fn map_status(is_whole: bool) -> ExitStatus
     }
 }
 
-/// What a table decides of the commands that the words ask of: at most as many rows and rules that never match as the
-/// words say.
+/// A map of the commands that the words ask of: at most as many rows and rules that never match as the words say.
 fn rows_of_map(alloc: Global, words: &MapWords, policy: &Policy) -> Result<MapRows, AllocError>
     ensures { IfOk result (IsMapOf words.now.asking words.now.lines policy.now) }
 {

@@ -107,7 +107,7 @@ fn packet_at(alloc: Global, target: u8, point: &Point) -> Result<Packet, AllocEr
     }
 }
 
-/// What a node does with a packet, before its table may decide.
+/// The fate of a packet at a node, before its table may decide.
 #[derive(Clone, Copy, Debug, PartialEq, Eq)]
 pub enum PacketFate {
     /// It brings the packet to its table.
@@ -118,16 +118,16 @@ pub enum PacketFate {
     Discarded,
 }
 
-/// A packet, and what a node does with it.
+/// A packet, and its fate at a node.
 #[derive(Debug, Drop)]
 pub struct RowPacket {
     /// The packet.
     pub packet: Packet,
-    /// What the node does with it.
+    /// Its fate at the node.
     pub fate: PacketFate,
 }
 
-/// What a node with these windows does with a packet: it is a command that no check of its header answers, or not.
+/// The fate of a packet at a node with these windows.
 fn fate_of(windows: &Windows, packet: &Packet) -> PacketFate
     ensures { result ≡ fate_of windows.now packet.now }
 {

@@ -1,4 +1,4 @@
--- What the jobs that have rows do, by the rows that they give.
+-- The jobs that have rows, by the rows that they give.
 use Rattle.std.specs.Prelude.{◌≡◌, ℕ, List, Option, None, Some}
 use Rattle.std.specs.declared.alloc.Global.{Global}
 use Rattle.std.specs.declared.vec.Vec.{Vec}
@@ -38,7 +38,7 @@ abbrev pub rows_of_loaders : Option LoaderRows → JobRows
 rows_of_loaders None = Nothing
 rows_of_loaders (Some loaders) = Loaders loaders
 
--- what was decided, if there is a table
+-- the decisions, if there is a table
 abbrev pub rows_of_decisions : Option (Vec PacketDecision Global) → JobRows
 rows_of_decisions None = Nothing
 rows_of_decisions (Some decisions) = Decisions decisions

@@ -33,7 +33,7 @@ pub enum JobRows {
     Comparison(Vec<Difference>),
     /// Whose loads a policy lets pass.
     Loaders(LoaderRows),
-    /// What a table decides on packets.
+    /// Decisions on packets.
     Decisions(Vec<PacketDecision>),
 }
 
@@ -68,7 +68,7 @@ impl JobRows {
         }
     }
 
-    /// What was decided, if there is a table.
+    /// The decisions, if there is a table.
     fn of_decisions(decisions: Option<Vec<PacketDecision>>) -> JobRows
         ensures { result ≡ rows_of_decisions decisions }
     {

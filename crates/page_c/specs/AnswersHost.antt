@@ -9,8 +9,7 @@ use Rattle.doing.specs.Doings.{DoesWords, words_given}
 use Rattle.doing.specs.declared.doing.Left.{Left}
 
 -- the bytes that were given are words and a folder, and the words were done over the folder. The other bytes are what
--- came of that: status, output, what standard error has, the rows of which output was printed, and the files that the
--- folder got
+-- came of that: status, output, what standard error has, rows, and the files that the folder got
 pub record AnswersHost (given bytes : List ℕ) : Type 0 where
   pub words : List Text
   pub folder : FolderValue

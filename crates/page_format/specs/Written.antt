@@ -7,8 +7,8 @@ use Rattle.page_format.specs.Pieces.{AreShort, IsShortPiece, files_bytes, number
 abbrev pub files_since : (count : ℕ) → FolderValue → FolderValue
 files_since count folder = take (length folder - count) folder
 
--- the bytes are this exit status, this output, this reported text, these rows and these files: a number, three pieces,
--- and then to the end the files
+-- the bytes are this exit status, this output, this reported text, these rows and these files. They are a number, three
+-- pieces, and then to the end the files
 pub record IsOutcomeWritten (status : ℕ) (out reported rows : List ℕ) (files : FolderValue) (bytes : List ℕ) : Type 0 where
   pub status_fits : status < 2 ^ 32
   pub out_short : IsShortPiece out

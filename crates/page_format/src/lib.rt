@@ -3,9 +3,9 @@
 //! A number is four bytes, the lowest first. A piece is its length, a number, and then its bytes.
 //!
 //! A host hands over the number of words, each word as a piece, and of each file its name and its bytes as two pieces.
-//! It gets back the exit status, a number, and three pieces: what standard output and standard error have, and the bytes
-//! of the rows of which standard output was printed, as `page_rows` has them. After them come the name and the bytes of
-//! each file that was written, the newest first.
+//! It gets back the exit status, a number, and three pieces: what standard output and standard error have, and rows. The
+//! rows are those of which standard output was printed, as `page_rows` has them. After them come the name and the bytes
+//! of each file that was written, the newest first.
 #![tactic(auto)]
 
 mod laws;

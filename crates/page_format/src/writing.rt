@@ -50,8 +50,8 @@ fn add_sheets(bytes: &mut Vec<u8>, sheets: &[Sheet]) -> Result<(), AllocError>
     Ok(())
 }
 
-/// The bytes of the results of words: the exit status, what standard output and standard error have, the bytes of the
-/// rows of which output was printed, and the written files, in this order.
+/// The bytes of the results of words: the exit status, what standard output and standard error have, rows, and the
+/// written files, in this order.
 ///
 /// # Errors
 ///

@@ -1,4 +1,4 @@
--- What is decided on packets, as the page draws it, and how that is bytes.
+-- Decisions on packets, as the page draws them, and how these are bytes.
 use Rattle.std.specs.Prelude.{ℕ, List, Option, None, map, string_bytes}
 use Rattle.rmap.specs.Codes.{discard_code, status_code}
 use Rattle.rmap.specs.Verdict.{verdict_number}

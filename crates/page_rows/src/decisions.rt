@@ -1,4 +1,4 @@
-//! What a table decides on packets.
+//! Decisions on packets.
 
 ghost use Rattle.std.specs.Prelude.{◌≡◌, OnOk, map};
 ghost use Rattle.page_rows.specs.Codes.{Adds, AddsEach, both, number_code, option_code};

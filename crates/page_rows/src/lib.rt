@@ -1,11 +1,11 @@
 //! How the rows of a job are bytes.
 //!
-//! - A number is four bytes, the lowest first; a long number is eight bytes, the lowest first.
+//! - A number is four bytes, the lowest first. A long number is eight bytes, the lowest first.
 //! - A flag is the number 0 or 1.
 //! - A piece is its length, a number, and then its bytes. A text is a piece that is UTF-8.
 //! - A list is the number of its items, and then the items.
 //! - An option is a flag, and after a 1 the value.
-//! - A set of bytes is 32 bytes: byte B is in the set if bit B % 8 (the lowest is bit 0) of byte B / 8 is 1.
+//! - A set of bytes is 32 bytes. Byte B is in the set if bit B % 8 of byte B / 8 is 1; bit 0 is the lowest.
 //!
 //! The rows of a job are a number, and after it what belongs to this number:
 //!
@@ -17,32 +17,41 @@
 //! | 3 | `rehearse --any` | a number, the size of the image, and the list of its loaders, which is empty if nobody loads |
 //! | 4 | `decide` | the list of its decisions |
 //!
-//! Each of these is in the order in which it is printed, and one after another has these parts:
+//! A list has the order in which the job prints its items. The parts of an item are one after another:
 //!
-//! - A row: its ports, a piece of a byte each; three flags, whether reads, writes and read-modify-writes are of it; the
-//!   sets of its keys, of its initiators and of its extended addresses; the stretch of the first addresses of its
-//!   commands, and that of the last ones; a flag, whether the line has the rest of all addresses (`else`); and the list
-//!   of the steps that the table asks (of a difference: the old table).
-//! - A stretch: two long numbers, its first address and the address after its last, up to 2^32.
-//! - A step: two numbers, the line of the rule and the verdict; and the option of its quota, which is three numbers:
-//!   map, cell and limit. If the last step has a quota, or if there is none, the verdict is then 10 by no rule.
-//! - A note, of a rule that never matches: two numbers, the line of the rule and the reason; and the list of lines of
-//!   other rules, each a number. The reason is 0 if its limit is 0, and the list is empty; 1 if the rules of the list draw
-//!   before it and leave it no ticket; 2 if the rules of the list are before it wherever it agrees.
-//! - A difference: a row; the list of the steps that the new table asks; the sign, a number (0 is `+`, 1 is `-`, 2 is
-//!   `+-`, 3 is `~`); how often the packet must come; and the packet. How often is an option: none if its verdicts are
-//!   the same however often it comes (`draws`), or else two long numbers, and the packet must come the first and 2^64
-//!   times the second.
-//! - A packet: a piece, its bytes; and three numbers: its end (0 is EOP, 1 is EEP), what the node does with it, and a
-//!   status. What the node does is 0 if it brings the packet to its table, 1 if a check of its header answers it with that
-//!   status, and 2 if it discards it. The status is 0 if it is not 1. Its port is the first of the ports of its row.
-//! - A loader: two numbers, its first and its last port; its initiator and its key; and a number for when its loads
-//!   pass (0: always, 1: until quotas are spent, 2: only after quotas are spent). An initiator or a key is a flag and a
-//!   number: 1 and the value, or 0 and the least value that no rule names, if it is any of these (`*`).
-//! - A decision: three numbers, its port, who decides, and a verdict, a status or a reason; the option of the line of the
-//!   rule, a number; and two texts, its first printed line, and the printed lines below that, each with its line feed.
-//!   Who decides is 0 if it is the table, with a verdict; 1 if it is a check of the header, with a status; and 2 if the
-//!   packet is discarded, with the reason (1 to 4). Only a table has a line; it has none if no rule decides.
+//! | Item | Part | What it is |
+//! |---|---|---|
+//! | row | piece | its ports, a byte each |
+//! | | three flags | whether reads, writes and read-modify-writes are of it |
+//! | | three sets | its keys, its initiators, its extended addresses |
+//! | | two stretches | the first addresses of its commands, and the last ones |
+//! | | flag | whether it has the rest of all addresses (`else`) |
+//! | | list of steps | the rules that the table asks; of a difference the old table |
+//! | stretch | two long numbers | its first address, and the address after its last, up to 2^32 |
+//! | step | two numbers | the line of the rule, and the verdict |
+//! | | option of three numbers | the map, the cell and the limit of its quota |
+//! | note | two numbers | the line of a rule that never matches, and the reason |
+//! | | list of numbers | lines of other rules |
+//! | difference | row | the row |
+//! | | list of steps | the rules that the new table asks |
+//! | | number | the sign: 0 is `+`, 1 is `-`, 2 is `+-`, 3 is `~` |
+//! | | option of two long numbers | how often the packet must come: the first, and 2^64 times the second; none is `draws` |
+//! | | packet | the packet, whose port is the first of the ports of the row |
+//! | packet | piece | its bytes |
+//! | | number | its end: 0 is EOP, 1 is EEP |
+//! | | two numbers | 0 and 0: the node brings it to its table; 1 and a status: a check of its header answers it; 2 and 0: the node discards it |
+//! | loader | two numbers | its first and its last port |
+//! | | flag, number | the initiator: 1 and the value; 0 and the least value that no rule names, if it is any of these |
+//! | | flag, number | the key, so too |
+//! | | number | when its loads pass: 0 is always, 1 until quotas are spent, 2 only after quotas are spent |
+//! | decision | number | its port |
+//! | | two numbers | 0 and a verdict: the table decides; 1 and a status: a check of the header does; 2 and a reason, 1 to 4: the packet is discarded |
+//! | | option of a number | the line of the rule, if a rule decides |
+//! | | two texts | the first printed line, and those below it, each with its line feed |
+//!
+//! If the last step has a quota, or if there is none, the verdict is then 10 by no rule. The reason of a note is 0 if the
+//! limit is 0, and then the list is empty. It is 1 if the rules of the list draw before it and leave it no ticket. It is
+//! 2 if the rules of the list are before it wherever it agrees.
 //!
 //! Words that ended with a fault have no rows: their number is 0. If they have rows, the exit status says the rest: that
 //! of a map which is cut is 1.
