@@ -3,10 +3,10 @@
 ghost use Rattle.std.specs.Prelude.{◌≡◌, ℕ, List, [], IfOk, MatchOption, MatchResult, None, OnOk, Some, false, true};
 ghost use Rattle.commands.specs.Desks.{DeskWords};
 
-use job_rows::JobRows;
 use crate::noted::FileCause;
 use crate::serving::Serves;
 use job_live::talk::Talk;
+use job_rows::JobRows;
 use linking::Link;
 use std::alloc::{AllocError, Global};
 use std::fmt::Display;

@@ -7,7 +7,6 @@ ghost use Rattle.job_parts.specs.Arguments.{name_in};
 ghost use Rattle.job_parts.specs.Stops.{StopsBy};
 
 use crate::facts::Facts;
-use job_rows::{JobRows, compare_rows, decide_rows, map_rows, rehearse_rows};
 use crate::read_names::{ReadNames, lent, order_name, place_name, source_name};
 use crate::serving::{Serves, Threaded};
 use job_charts::compare::CompareWords;
@@ -30,6 +29,7 @@ use job_parts::status::ExitStatus;
 use job_parts::stops::{JobStop, WriteFault};
 use job_parts::storage::Files;
 use job_rehearse::rehearse::RehearseWords;
+use job_rows::{JobRows, compare_rows, decide_rows, map_rows, rehearse_rows};
 use job_show::show::{ShowWords, show_file};
 use job_suite::suite::suite_file;
 use job_suite::words::SuiteWords;

@@ -3,13 +3,13 @@
 ghost use Rattle.std.specs.Prelude.{◌≡◌};
 
 use crate::desk::Desk;
-use job_rows::JobRows;
 use crate::losses::{UnreportedTexts, loss_report};
 use crate::noted::FileCause;
 use crate::serving::Threaded;
 use crate::whole_file::write_whole;
 use job_frames::host::HostLink;
 use job_live::host::HostTalk;
+use job_rows::JobRows;
 use std::alloc::{AllocError, Global};
 use std::fmt::Display;
 use std::fs::Metadata;

@@ -14,7 +14,6 @@ ghost use Rattle.job_parts.specs.declared.inputs.Content.TheVariants.{Node};
 ghost use Rattle.job_parts.specs.declared.status.ExitStatus.TheVariants.{Failed};
 ghost use Rattle.node_parts.specs.Nodes.{are_within, windows_of};
 
-use job_rows::JobRows;
 use crate::jobs::{Job, JobEnd};
 use clap::{ArgMatches, Command};
 use job_charts::compare::CompareWords;
@@ -28,6 +27,7 @@ use job_parts::arguments::text_of;
 use job_parts::faults::Fault;
 use job_parts::inputs::{Content, Inputs};
 use job_parts::status::ExitStatus;
+use job_rows::JobRows;
 use job_texts::images::ImageArgs;
 use job_texts::policies::PolicyWords;
 use job_weigh::weigh::WeighWords;

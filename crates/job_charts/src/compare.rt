@@ -302,14 +302,7 @@ fn rows_of_tables(
     ensures { IfOk result (λ found. AreTableDifferences asked.now words.now.asking.port words.now.windows old.now new.now found.items) }
 {
     let places = places(alloc, &words.windows)?;
-    let rows = difference_rows(
-        alloc,
-        asked,
-        words.asking.port,
-        old,
-        new,
-        places.as_slice(),
-    )?;
+    let rows = difference_rows(alloc, asked, words.asking.port, old, new, places.as_slice())?;
     differences_of(alloc, &words.windows, rows)
 }
 

@@ -90,7 +90,10 @@ fn add_each_difference(bytes: &mut Vec<u8>, differences: &[Difference]) -> Resul
 }
 
 /// Adds the differences of two tables.
-pub(crate) fn add_differences(bytes: &mut Vec<u8>, differences: &[Difference]) -> Result<(), AllocError>
+pub(crate) fn add_differences(
+    bytes: &mut Vec<u8>,
+    differences: &[Difference],
+) -> Result<(), AllocError>
     ensures { OnOk result (Adds differences_code (drawn_differences differences.now)
         bytes.old.items bytes.new.items) }
 {

@@ -65,7 +65,10 @@ fn add_each_decision(bytes: &mut Vec<u8>, decisions: &[PacketDecision]) -> Resul
 }
 
 /// Adds what is decided.
-pub(crate) fn add_decisions(bytes: &mut Vec<u8>, decisions: &[PacketDecision]) -> Result<(), AllocError>
+pub(crate) fn add_decisions(
+    bytes: &mut Vec<u8>,
+    decisions: &[PacketDecision],
+) -> Result<(), AllocError>
     ensures { OnOk result (Adds decisions_code (drawn_decisions decisions.now)
         bytes.old.items bytes.new.items) }
 {
