@@ -1,3 +1,4 @@
 mod Adding
 mod Cutting
+mod Kinds
 mod Sets
