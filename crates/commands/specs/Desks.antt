@@ -1,7 +1,7 @@
 -- What a command line is done over.
 use Rattle.std.specs.Prelude.{◌≡◌, ◌⊎◌, ◌++◌, ℕ, Bool, true, false, List, Option, Some, None, codes, option_map}
 use Rattle.job_live.specs.Talking.{ComesLine, Misses, Sends}
-use Rattle.job_rows.specs.declared.lib.JobRows.{JobRows}
+use Rattle.job_rows.specs.declared.rows.JobRows.{JobRows}
 use Rattle.job_parts.specs.Files.{ReadsFile, WritesFile}
 use Rattle.commands.specs.Notes.{GivesPlaced, maps_for, next_content, reads_dump}
 use Rattle.commands.specs.declared.dumps.DumpTalk.{DumpTalk}

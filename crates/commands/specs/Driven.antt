@@ -11,7 +11,7 @@ use Rattle.job_frames.specs.FramesJob.{IsFramesUnsent, LivesFrames}
 use Rattle.job_live.specs.LiveJob.{IsUnsent, Lives}
 use Rattle.job_live.specs.Talking.{ComesLine, Misses, Sends}
 use Rattle.job_live.specs.declared.words.LiveWords.{LiveWords}
-use Rattle.job_rows.specs.declared.lib.JobRows.{JobRows}
+use Rattle.job_rows.specs.declared.rows.JobRows.{JobRows}
 use Rattle.job_parts.specs.Printed.{job_fault_line}
 use Rattle.job_parts.specs.Statuses.{exit_code, usage_status}
 use Rattle.job_parts.specs.declared.faults.Fault.{Fault}

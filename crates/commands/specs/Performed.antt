@@ -20,8 +20,8 @@ use Rattle.job_nodes.specs.Simulated.{DoesSim, IsNotSimulated}
 use Rattle.job_packets.specs.MadePackets.{IsNotMade, MakesFile}
 use Rattle.job_suite.specs.SuiteFile.{IsNoSuite, PrintsSuite}
 use Rattle.job_rows.specs.Rows.{Compares, Decides, Maps, Rehearses}
-use Rattle.job_rows.specs.declared.lib.JobRows.{JobRows}
-use Rattle.job_rows.specs.declared.lib.JobRows.TheVariants.{Nothing}
+use Rattle.job_rows.specs.declared.rows.JobRows.{JobRows}
+use Rattle.job_rows.specs.declared.rows.JobRows.TheVariants.{Nothing}
 use Rattle.job_show.specs.Shown.{IsNotShown, ShowsFile}
 use Rattle.job_texts.specs.Verified.{Verifies}
 use Rattle.job_trace.specs.Traced.{DoesTrace, IsNotTraced}

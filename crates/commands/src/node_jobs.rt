@@ -6,7 +6,7 @@ ghost use Rattle.clap.specs.Simple.{app_of};
 ghost use Rattle.clap.specs.Walk.{rows_of};
 ghost use Rattle.clap.specs.declared.builder.command.Command.TheViews.{out-Command as fields_of};
 ghost use Rattle.commands.specs.Jobs.{placed};
-ghost use Rattle.job_rows.specs.declared.lib.JobRows.TheVariants.{Nothing};
+ghost use Rattle.job_rows.specs.declared.rows.JobRows.TheVariants.{Nothing};
 ghost use Rattle.commands.specs.OnNodes.{are_left, own_file, with_node_option};
 ghost use Rattle.job_config.specs.Configured.{numbers_in};
 ghost use Rattle.job_parts.specs.Inputs.{AreInputs, input, input_value};

@@ -6,7 +6,7 @@ use Rattle.std.specs.declared.io.impls.Cursor.{Cursor}
 use Rattle.std.specs.declared.vec.Vec.{Vec}
 use Rattle.folders.specs.Folders.{FolderReads, FolderValue, FolderWrites, content_of}
 use Rattle.job_frames.specs.declared.host.HostLink.{HostLink}
-use Rattle.job_rows.specs.declared.lib.JobRows.{JobRows}
+use Rattle.job_rows.specs.declared.rows.JobRows.{JobRows}
 use Rattle.job_live.specs.HostLines.{LosesLine, ReadsLine}
 use Rattle.job_live.specs.declared.host.HostTalk.{HostTalk}
 use Rattle.commands.specs.Desks.{DeskWords}

@@ -7,7 +7,7 @@ use Rattle.commands.specs.Driven.{LinkWords, end_code, DoesGiven}
 pub use Rattle.commands.specs.Given.{words_given}
 use Rattle.commands.specs.declared.driver.End.{End}
 use Rattle.folders.specs.Folders.{FolderValue}
-use Rattle.job_rows.specs.declared.lib.JobRows.TheVariants.{Nothing}
+use Rattle.job_rows.specs.declared.rows.JobRows.TheVariants.{Nothing}
 use Rattle.doing.specs.Desks.{PageLink, page_talk, page_words}
 use Rattle.doing.specs.declared.desk.PageDesk.{PageDesk}
 use Rattle.doing.specs.declared.doing.Left.{Left}

@@ -2,7 +2,7 @@
 
 ghost use Rattle.std.specs.Prelude.{◌≡◌, [], IfOk};
 ghost use Rattle.doing.specs.Desks.{input_of};
-ghost use Rattle.job_rows.specs.declared.lib.JobRows.TheVariants.{Nothing};
+ghost use Rattle.job_rows.specs.declared.rows.JobRows.TheVariants.{Nothing};
 
 use crate::error_output::ErrorOutput;
 use commands::{Desk, FileCause, Files, HostLink, HostTalk, JobRows, Nobody};

@@ -20,8 +20,8 @@ use Rattle.job_rehearse.specs.Rehearsed.{RehearsesFile}
 use Rattle.job_rehearse.specs.declared.loader_rows.LoaderRows.{LoaderRows}
 use Rattle.job_rehearse.specs.declared.rehearse.RehearseEnd.{RehearseEnd}
 use Rattle.job_rehearse.specs.declared.rehearse.RehearseWords.{RehearseWords}
-use Rattle.job_rows.specs.declared.lib.JobRows.{JobRows}
-use Rattle.job_rows.specs.declared.lib.JobRows.TheVariants.{Nothing, Map, Comparison, Loaders, Decisions}
+use Rattle.job_rows.specs.declared.rows.JobRows.{JobRows}
+use Rattle.job_rows.specs.declared.rows.JobRows.TheVariants.{Nothing, Map, Comparison, Loaders, Decisions}
 
 -- the rows of a map, if there is one
 abbrev pub rows_of_map : Option MapRows → JobRows

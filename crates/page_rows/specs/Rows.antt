@@ -1,7 +1,7 @@
 -- The rows of a job, as the page draws them, and how these are bytes.
 use Rattle.std.specs.Prelude.{◌≡◌, ◌++◌, ℕ, List, []}
-use Rattle.job_rows.specs.declared.lib.JobRows.{JobRows}
-use Rattle.job_rows.specs.declared.lib.JobRows.TheVariants.{Nothing, Map, Comparison, Loaders, Decisions}
+use Rattle.job_rows.specs.declared.rows.JobRows.{JobRows}
+use Rattle.job_rows.specs.declared.rows.JobRows.TheVariants.{Nothing, Map, Comparison, Loaders, Decisions}
 use Rattle.page_format.specs.Pieces.{number_bytes}
 use Rattle.page_rows.specs.Charts.{DrawnMap, chart_code, drawn_map}
 use Rattle.page_rows.specs.Codes.{Adds, Code}

@@ -25,7 +25,7 @@ use Rattle.job_trace.specs.Traced.{DoesTrace, IsNotTraced}
 use Rattle.job_parts.specs.Statuses.{exit_code}
 use Rattle.job_parts.specs.declared.status.ExitStatus.{ExitStatus}
 use Rattle.job_parts.specs.declared.status.ExitStatus.TheVariants.{Done, Failed, Misused}
-use Rattle.job_rows.specs.declared.lib.JobRows.{JobRows}
+use Rattle.job_rows.specs.declared.rows.JobRows.{JobRows}
 use Rattle.commands.specs.Performed.{IsJobDone, IsJobEnded, PerformsSome}
 use Rattle.commands.specs.declared.jobs.Job.{Job}
 use Rattle.commands.specs.declared.jobs.Job.TheVariants.{Judge, Serve, Simulate, Trace, Assemble, Disassemble}
