@@ -60,6 +60,14 @@ pub record AreSoFar (windows : WindowsValue) (all : List RowValue) (found : List
   pub shown : All (IsShown windows) found
   pub changes : All HasChange left
 
+pub none_found : (windows : WindowsValue) (all : List RowValue) (found : List Difference) (left : List RowValue) → found ≡ [] → left ≡ all → All HasChange all
+    → AreSoFar windows all found left
+none_found windows all found left none is are = record {
+  rows = ap (λ (f : List Difference). map (λ (o : Difference). o.row) f ++ left) none ∙ is;
+  shown = subst (λ (f : List Difference). All (IsShown windows) f) (sym none) (All-nil (IsShown windows));
+  changes = subst (λ (l : List RowValue). All HasChange l) (sym is) are;
+}
+
 more : (found : List Difference) (own : Difference) (row : RowValue) (rest : List RowValue) → own.row ≡ row
     → map (λ (o : Difference). o.row) (found ++ own ∷ []) ++ rest ≡ map (λ (o : Difference). o.row) found ++ row ∷ rest
 more [] own row rest is = ap (λ (r : RowValue). r ∷ rest) is

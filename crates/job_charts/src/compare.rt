@@ -291,7 +291,6 @@ fn text_of_differences(
 }
 
 /// The differences of two tables, of the commands that are asked of, each with its packet.
-#[tactic(auto, using(crate::proofs::Changed::are_changed))]
 fn rows_of_tables(
     alloc: Global,
     words: &CompareWords,
