@@ -1,4 +1,4 @@
 mod Adding
 mod Cutting
-mod Kinds
+mod Numbered
 mod Sets

@@ -13,7 +13,7 @@ use job_rows::JobRows;
 use std::alloc::{AllocError, Global};
 
 /// Adds the rows of a job.
-#[tactic(auto, using(crate::proofs::Kinds::map_added, crate::proofs::Kinds::comparison_added, crate::proofs::Kinds::loaders_added, crate::proofs::Kinds::decisions_added))]
+#[tactic(auto, using(crate::proofs::Numbered::map_added, crate::proofs::Numbered::comparison_added, crate::proofs::Numbered::loaders_added, crate::proofs::Numbered::decisions_added))]
 fn add_rows(bytes: &mut Vec<u8>, rows: &JobRows) -> Result<(), AllocError>
     ensures { OnOk result (Adds rows_code (drawn_rows rows.now) bytes.old.items bytes.new.items) }
 {
