@@ -16,11 +16,11 @@ use Rattle.page_rows.specs.Sets.{set_bytes}
 
 -- a quota: its map, its cell and its limit
 abbrev pub DrawnQuota : Type 0
-DrawnQuota = ℕ × ℕ × ℕ
+DrawnQuota = ℕ × (ℕ × ℕ)
 
 -- the quota of a rule as it is drawn
 abbrev pub drawn_quota : Quota → DrawnQuota
-drawn_quota quota = (quota.map, quota.cell, quota.limit)
+drawn_quota quota = (quota.map, (quota.cell, quota.limit))
 
 -- a quota is three numbers
 abbrev pub quota_code : Code DrawnQuota
@@ -33,11 +33,11 @@ drawn_rule_quota (Some quota) = Some (drawn_quota quota)
 
 -- a step: the line of the rule, its verdict, and its quota
 abbrev pub DrawnStep : Type 0
-DrawnStep = ℕ × ℕ × Option DrawnQuota
+DrawnStep = ℕ × (ℕ × Option DrawnQuota)
 
 -- a rule that is asked as it is drawn
 abbrev pub drawn_step : AskedRule → DrawnStep
-drawn_step step = (step.number, verdict_number step.rule.verdict, drawn_rule_quota step.rule.quota)
+drawn_step step = (step.number, (verdict_number step.rule.verdict, drawn_rule_quota step.rule.quota))
 
 -- a step is two numbers, and the option of a quota
 abbrev pub step_code : Code DrawnStep
@@ -49,11 +49,11 @@ steps_code = list_code step_code
 
 -- kinds: whether reads, writes and read-modify-writes are of them
 abbrev pub DrawnKinds : Type 0
-DrawnKinds = Bool × Bool × Bool
+DrawnKinds = Bool × (Bool × Bool)
 
 -- a set of kinds as it is drawn
 abbrev pub drawn_kinds : Kinds → DrawnKinds
-drawn_kinds kinds = (kinds.read, kinds.write, kinds.rmw)
+drawn_kinds kinds = (kinds.read, (kinds.write, kinds.rmw))
 
 -- kinds are three flags
 abbrev pub kinds_code : Code DrawnKinds
@@ -73,17 +73,13 @@ set_code = plain_code 32
 
 -- a region: kinds, the sets of keys, initiators and extended addresses, and the stretches of first and last addresses
 abbrev pub DrawnRegion : Type 0
-DrawnRegion = DrawnKinds × List ℕ × List ℕ × List ℕ × (ℕ × ℕ) × (ℕ × ℕ)
+DrawnRegion = DrawnKinds × (List ℕ × (List ℕ × (List ℕ × ((ℕ × ℕ) × (ℕ × ℕ)))))
 
 -- a region as it is drawn
 abbrev pub drawn_region : PointRegion → DrawnRegion
 drawn_region region = (
   drawn_kinds region.kinds,
-  set_bytes region.keys,
-  set_bytes region.initiators,
-  set_bytes region.extended,
-  drawn_stretch region.first,
-  drawn_stretch region.last,
+  (set_bytes region.keys, (set_bytes region.initiators, (set_bytes region.extended, (drawn_stretch region.first, drawn_stretch region.last)))),
 )
 
 -- a region is kinds, three sets and two stretches
@@ -92,11 +88,11 @@ region_code = both kinds_code (both set_code (both set_code (both set_code (both
 
 -- a row: its ports, its region, whether it has the rest, and the steps of the table, or of the old one of two
 abbrev pub DrawnRow : Type 0
-DrawnRow = List ℕ × DrawnRegion × Bool × List DrawnStep
+DrawnRow = List ℕ × (DrawnRegion × (Bool × List DrawnStep))
 
 -- a row as it is drawn
 abbrev pub drawn_row : RowValue → DrawnRow
-drawn_row row = (row.ports, drawn_region row.reported.region, row.reported.rest, map drawn_step row.reported.decision_path)
+drawn_row row = (row.ports, (drawn_region row.reported.region, (row.reported.rest, map drawn_step row.reported.decision_path)))
 
 -- a row is a piece, a region, a flag and steps
 abbrev pub row_code : Code DrawnRow
@@ -118,7 +114,7 @@ reason_code = both number_code lines_code
 
 -- a rule that never matches: its line, and why
 abbrev pub DrawnNote : Type 0
-DrawnNote = ℕ × ℕ × List ℕ
+DrawnNote = ℕ × (ℕ × List ℕ)
 
 -- a rule that never matches as it is drawn
 abbrev pub drawn_note : Note → DrawnNote
@@ -130,11 +126,11 @@ note_code = both number_code reason_code
 
 -- a map: its rows, the rules that never match, and whether these are all
 abbrev pub DrawnMap : Type 0
-DrawnMap = List DrawnRow × List DrawnNote × Bool
+DrawnMap = List DrawnRow × (List DrawnNote × Bool)
 
 -- a map as it is drawn
 abbrev pub drawn_map : MapRows → DrawnMap
-drawn_map chart = (map drawn_row chart.rows.items, map drawn_note chart.never.items, chart.is_whole)
+drawn_map chart = (map drawn_row chart.rows.items, (map drawn_note chart.never.items, chart.is_whole))
 
 -- a map is its rows, its rules that never match, and a flag
 abbrev pub chart_code : Code DrawnMap

@@ -43,11 +43,11 @@ fate_numbers Discarded = (2, 0)
 
 -- a packet: its bytes, its end, what the node does with it, and a status
 abbrev pub DrawnPacket : Type 0
-DrawnPacket = List ℕ × ℕ × ℕ × ℕ
+DrawnPacket = List ℕ × (ℕ × (ℕ × ℕ))
 
 -- the packet of a row as it is drawn
 abbrev pub drawn_packet : RowPacket → DrawnPacket
-drawn_packet own = (own.packet.bytes, end_number own.packet.end, fate_numbers own.fate)
+drawn_packet own = (own.packet.bytes, (end_number own.packet.end, fate_numbers own.fate))
 
 -- a packet is a piece and three numbers
 abbrev pub packet_code : Code DrawnPacket
@@ -55,16 +55,13 @@ packet_code = both piece_code (both number_code (both number_code number_code))
 
 -- a difference: its row, the steps of the new table, its sign, how often its packet must come, and the packet
 abbrev pub DrawnDifference : Type 0
-DrawnDifference = DrawnRow × List DrawnStep × ℕ × Option (ℕ × ℕ) × DrawnPacket
+DrawnDifference = DrawnRow × (List DrawnStep × (ℕ × (Option (ℕ × ℕ) × DrawnPacket)))
 
 -- a difference as it is drawn
 abbrev pub drawn_difference : Difference → DrawnDifference
 drawn_difference own = (
   drawn_row own.row,
-  map drawn_step own.row.reported.new,
-  sign_number own.change.sign,
-  drawn_repeats own.change.repeats,
-  drawn_packet own.packet,
+  (map drawn_step own.row.reported.new, (sign_number own.change.sign, (drawn_repeats own.change.repeats, drawn_packet own.packet))),
 )
 
 -- a difference is a row, steps, a number, how often, and a packet

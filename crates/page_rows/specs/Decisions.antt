@@ -21,11 +21,11 @@ line_of (Discarded discard) = None
 
 -- a decision: its port, who decides and what, the line of the rule, the first printed line, and those below it
 abbrev pub DrawnDecision : Type 0
-DrawnDecision = ℕ × (ℕ × ℕ) × Option ℕ × List ℕ × List ℕ
+DrawnDecision = ℕ × ((ℕ × ℕ) × (Option ℕ × (List ℕ × List ℕ)))
 
 -- what is decided on a packet as it is drawn
 abbrev pub drawn_decision : PacketDecision → DrawnDecision
-drawn_decision made = (made.port, by_numbers made.by, line_of made.by, string_bytes made.line, string_bytes made.why)
+drawn_decision made = (made.port, (by_numbers made.by, (line_of made.by, (string_bytes made.line, string_bytes made.why))))
 
 -- a decision is three numbers, the option of a line, and two pieces
 abbrev pub decision_code : Code DrawnDecision

@@ -37,11 +37,11 @@ asker_code = both value_code value_code
 
 -- a loader: its first and its last port, who loads, and when the loads pass
 abbrev pub DrawnLoader : Type 0
-DrawnLoader = ℕ × ℕ × DrawnAsker × ℕ
+DrawnLoader = ℕ × (ℕ × (DrawnAsker × ℕ))
 
 -- a row of loads as it is drawn
 abbrev pub drawn_loader : LoaderRow → DrawnLoader
-drawn_loader row = (row.first, row.last, drawn_asker row.asker, passing_number row.passing)
+drawn_loader row = (row.first, (row.last, (drawn_asker row.asker, passing_number row.passing)))
 
 -- a loader is two numbers, who loads, and a number
 abbrev pub loader_code : Code DrawnLoader
