@@ -30,7 +30,7 @@ function engine(port) {
     return given;
   }
 
-  // What came, of its bytes: the status, standard output, standard error, and name and bytes of each file that was written.
+  // What came, of its bytes: the status, standard output, standard error, the rows, and name and bytes of each file that was written.
   function unpacked(told) {
     const view = new DataView(told.buffer, told.byteOffset, told.length);
     const pieces = [];
@@ -39,10 +39,10 @@ function engine(port) {
       pieces.push(told.slice(at + 4, at + 4 + length));
       at += 4 + length;
     }
-    const [out, more, ...rest] = pieces;
+    const [out, more, rows, ...rest] = pieces;
     const written = [];
     for (let k = 0; k < rest.length; k += 2) written.push([decoder.decode(rest[k]), rest[k + 1]]);
-    return { status: view.getUint32(0, true), out, told: decoder.decode(more), written };
+    return { status: view.getUint32(0, true), out, told: decoder.decode(more), rows, written };
   }
 
   function once(given, room) {

@@ -3,18 +3,12 @@
 // How many askers a sentence names; more are a number and a list.
 const MOST_ASKERS = 4;
 
-// Who may load: of each line the ports, the initiator, the key, and when.
-function askersIn(text) {
-  const line = /^ *loads (?:of ([\d,]+) bytes )?by port (\d+)-(\d+) initiator (\S+) key (\S+)(?: (until quotas are spent|only after quotas are spent))?$/gm;
-  return [...text.matchAll(line)].map(([, size, low, high, initiator, key, when]) => ({ size, low, high, initiator, key, when }));
-}
-
 // Whether each rule of a table has * for its word of this number, so that no rule names a value there.
 const namesNone = (table, k) => table.split('\n').map((line) => line.split(';')[0].trim()).filter((line) => line && !line.startsWith('.')).every((line) => line.split(/ +/)[k] === '*');
 
 function askerWords({ low, high, initiator, key }, table) {
   const all = (what, k) => (namesNone(table, k) ? `any ${what}` : `each ${what} that no rule names`);
-  const who = initiator === '*' ? all('initiator', 2) : `initiator ${initiator}`, how = key === '*' ? all('key', 1) : `key ${key}`;
+  const who = initiator === null ? all('initiator', 2) : `initiator ${rowWords.hex(initiator, 2)}`, how = key === null ? all('key', 1) : `key ${rowWords.hex(key, 2)}`;
   return `${who} with ${how} at ${low === high ? `port ${low}` : `ports ${low} to ${high}`}`;
 }
 
@@ -28,10 +22,10 @@ function kindWords(askers, when, table) {
 
 // The answer of a rehearsal of all askers, as words and as a colour.
 function answerOf(done, is_after, table = '') {
-  const askers = askersIn(done.text), told = (done.text + done.told).trimEnd();
-  const kinds = [undefined, 'until quotas are spent', 'only after quotas are spent'].map((when) => kindWords(askers, when, table)).filter(Boolean);
-  if (kinds.length > 0) return { words: kinds.join(' Also '), name: askers.some(({ when }) => when === undefined) ? 'yes' : 'warn', askers: askers.length };
-  if (!/^ *loads .*by nobody$/m.test(done.text)) return { words: `it is not known. ${told}`, name: 'warn', askers: 0 };
+  const askers = done.rows.loaders;
+  if (!askers) return { words: `it is not known. ${(done.text + done.told).trimEnd()}`, name: 'warn', askers: 0 };
+  const kinds = ['', 'until quotas are spent', 'only after quotas are spent'].map((when) => kindWords(askers, when, table)).filter(Boolean);
+  if (kinds.length > 0) return { words: kinds.join(' Also '), name: askers.some(({ when }) => when === '') ? 'yes' : 'warn', askers: askers.length };
   return { words: is_after ? 'nobody can load: the instrument cannot be changed in flight any more.' : 'nobody can load.', name: 'bad', askers: 0 };
 }
 

@@ -74,11 +74,12 @@ function showWork() {
 }
 setInterval(showWork, 500);
 
-// What words come to over the files of the page, with those of `more` in their place; what they write is given, and not kept.
+// What words come to over the files of the page, with those of `more` in their place; what they write is given, and not kept. The rows
+// are values; the text is what a terminal shows.
 async function perform(words, more = []) {
   const given = new Map([...files, ...more]);
   const done = await ask({ words, files: [...given] }, words[0] ?? 'judge');
-  return { ...done, text: decoder.decode(done.out) };
+  return { ...done, text: decoder.decode(done.out), rows: rowsOf(done.rows) };
 }
 
 const doLine = commandLines(files, perform);
