@@ -16,10 +16,9 @@ const counted = (count, one, more) => `${count.toLocaleString('en')} ${count ===
 const calls = new Map();
 let worker = null, number = 0, bytes = null;
 
-// The module: it stands in the page as base64 of its gzip.
+// The module: it stands in the page as digits of its gzip.
 async function moduleBytes() {
-  const packed = Uint8Array.from(atob($('module').textContent), (c) => c.charCodeAt(0));
-  const stream = new Blob([packed]).stream().pipeThrough(new DecompressionStream('gzip'));
+  const stream = new Blob([bytesOf85($('module').textContent)]).stream().pipeThrough(new DecompressionStream('gzip'));
   return new Uint8Array(await new Response(stream).arrayBuffer());
 }
 
