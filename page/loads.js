@@ -50,10 +50,10 @@ async function answers(is_old) {
   return found.map((one) => ({ ...one, answer: one.answer ?? answerOf(one.done, Boolean(one.is_after), one.table) }));
 }
 
-// Of which images it was asked, and at which node.
-function askedWords(new_image, old_image, is_guarded) {
-  const size = (image) => `${image.written[0][1].length} bytes`, is_old = old_image?.status === 0;
-  const own = is_old ? `Asked of the image of old.policy, ${size(old_image)}; before, of that of new.policy, ${size(new_image)}` : `Asked of its own image, ${size(new_image)}`;
+// Of which images it was asked under new.policy and under old.policy, and at which node.
+function askedWords(after, before, is_guarded) {
+  const size = ({ done }) => (done.rows.loaders ? `, ${done.rows.size} bytes` : '');
+  const own = before ? `Asked of the image of old.policy${size(after)}; before, of that of new.policy${size(before)}` : `Asked of its own image${size(after)}`;
   const guarded = is_guarded ? ' A program of the node\'s file is asked for each initiator with key 00, and for initiator 67 with each key.' : '';
   return `${own}; at ${is_node() ? 'the node of node.toml' : 'a node of 32 ports'}.${guarded}`;
 }
@@ -66,10 +66,9 @@ async function showLoaders(new_image, old_image, stale) {
     $('loaders').replaceChildren(answerLine('After the change', { words: 'it is not known who can load: new.policy has a fault.', name: 'warn' }));
     return;
   }
-  const found = await answers(old_image?.status === 0);
+  const found = await answers(old_image?.status === 0), is_guarded = guardOfNode() !== null, [after, before] = is_guarded ? found.slice(1) : found;
   if (stale()) return;
-  $('loaders').replaceChildren(...found.map(({ head, answer }) => answerLine(head, answer)),
-    made('p', { className: 'small', textContent: askedWords(new_image, old_image, guardOfNode() !== null) }));
+  $('loaders').replaceChildren(...found.map(({ head, answer }) => answerLine(head, answer)), made('p', { className: 'small', textContent: askedWords(after, before, is_guarded) }));
   if (found.every(({ answer }) => answer.askers <= MOST_ASKERS)) return;
   $('all-loaders').hidden = false;
   $('loaders-text').textContent = found.filter(({ done }) => done).map(({ head, done }) => `${head}\n${done.text}`).join('');

@@ -79,8 +79,8 @@ const rowWords = (() => {
     return `rule ${line} never matches: ${who}${REASONS[reason](count)}`;
   }
 
-  // A decision as it is printed, without its port and without what its other lines begin with.
-  const decisionOf = ({ port, printed: [first, ...more] }) => [first.slice(`${port} `.length), ...more.map((line) => line.trimStart())];
+  // A decision as it is printed, a text for each line, without its port and without the spaces of the other lines.
+  const decisionOf = ({ port, first, more }) => [first.slice(`${port} `.length), ...more.split('\n')].map((line) => line.trim()).filter(Boolean);
 
   return { HEADS, cellOf, courseOf, decisionOf, differenceOf, digits, hex, isIn, kindsIn, labelsOf, lineOf, noteOf, packetOf, ruleOf, valuesIn, wordsOf };
 })();

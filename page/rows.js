@@ -2,10 +2,10 @@
 const rowsOf = (() => {
   'use strict';
   const END = 2 ** 32, PORTS = 32, BYTES = 256;
-  const VERDICTS = [0, 3, 10, 12], SIGNS = ['+', '-', '+-', '~'], REASONS = ['limit', 'drawn', 'before'];
+  const VERDICTS = [0, 3, 10, 12], SIGNS = ['+', '-', '+-', '~'], REASONS = ['limit', 'drawn', 'before'], ENDS = ['EOP', 'EEP'];
   // When the loads of a loader pass.
   const WHEN = ['', 'until quotas are spent', 'only after quotas are spent'];
-  // Who decides on a packet: a table, a check of the header, or nobody, since it is discarded.
+  // Who decides on a packet: a table; a check of the header; or nobody, as it is discarded.
   const DECIDERS = ['table', 'header', 'nobody'];
   // The step of a table in which no rule matches.
   const NO_RULE = { line: 0, verdict: 10, quota: null };
@@ -98,15 +98,16 @@ const rowsOf = (() => {
   }
 
   function note(reader) {
-    const line = lineOf(reader), reason = reader.one(REASONS);
-    return { line, reason, others: reason === 'limit' ? [] : reader.list(() => lineOf(reader)) };
+    const line = lineOf(reader), reason = reader.one(REASONS), others = reader.list(() => lineOf(reader));
+    reader.must(reason !== 'limit' || others.length === 0, 'other rules have no part in a limit of 0');
+    return { line, reason, others };
   }
 
-  // A packet; its end; and whether the node brings it to its table.
+  // A packet; its end; and whether the node brings it to its table, or answers it with a status.
   function packet(reader) {
-    const bytes = reader.piece(), end = reader.one(['EOP', 'EEP']), what = reader.one(DECIDERS);
-    if (what === 'header') reader.number();
-    return { bytes, end, is_asked: what === 'table' };
+    const bytes = reader.piece(), end = reader.one(ENDS), decider = reader.one(DECIDERS), status = reader.number();
+    reader.must(decider === 'header' || status === 0, `the status ${status} is of no check of a header`);
+    return { bytes, end, is_asked: decider === 'table' };
   }
   function difference(reader) {
     const { steps: old, ...own } = row(reader);
@@ -125,12 +126,10 @@ const rowsOf = (() => {
   }
 
   function decision(reader) {
-    const port = reader.below(PORTS), decider = reader.one(DECIDERS), own = { port, decider };
-    if (decider === 'table') Object.assign(own, { verdict: verdict(reader), line: reader.option(() => lineOf(reader)) ?? 0 });
-    if (decider === 'header') own.status = reader.number();
-    own.printed = reader.list(() => reader.text());
-    reader.must(own.printed.length > 0, 'a decision has no line');
-    return own;
+    const port = reader.below(PORTS), decider = reader.one(DECIDERS), is_by_table = decider === 'table', number = is_by_table ? verdict(reader) : reader.number();
+    const line = reader.option(() => lineOf(reader)) ?? 0;
+    reader.must(is_by_table || line === 0, 'a rule decides where no table does');
+    return { port, decider, verdict: is_by_table ? number : null, line, first: reader.text(), more: reader.text() };
   }
 
   // What belongs to the number of each job: nothing for those without rows.
@@ -138,7 +137,7 @@ const rowsOf = (() => {
     () => ({}),
     (reader) => ({ lines: reader.list(() => row(reader)), notes: reader.list(() => note(reader)), is_whole: reader.flag() }),
     (reader) => ({ differences: reader.list(() => difference(reader)) }),
-    (reader) => ({ loaders: reader.list(() => loader(reader)) }),
+    (reader) => ({ size: reader.number(), loaders: reader.list(() => loader(reader)) }),
     (reader) => ({ decisions: reader.list(() => decision(reader)) }),
   ];
 

@@ -8,6 +8,6 @@ function saidOf(rows) {
   if (rows.lines) return text([...rows.lines.map((line) => rowWords.lineOf(line).text), ...rows.notes.map(rowWords.noteOf)]);
   if (rows.differences) return text(rows.differences.length ? rows.differences.map(rowWords.differenceOf).flatMap(asked) : ['same']);
   if (rows.loaders) return text(rows.loaders.length ? rows.loaders.map(loads) : ['loads by nobody']);
-  if (rows.decisions) return text(rows.decisions.flatMap(({ printed }) => printed));
+  if (rows.decisions) return rows.decisions.map(({ first, more }) => first + more).join('');
   return null;
 }
