@@ -36,6 +36,7 @@ function engine(port) {
     const pieces = [];
     for (let at = 4; at < told.length;) {
       const length = view.getUint32(at, true);
+      if (length > told.length - at - 4) throw Error('the answer is cut');
       pieces.push(told.slice(at + 4, at + 4 + length));
       at += 4 + length;
     }

@@ -71,7 +71,8 @@ const rowWords = (() => {
   // Why a rule never matches: by none, one or several of the others before it.
   const REASONS = {
     limit: () => 'its limit is 0',
-    drawn: (count) => ['draws before it leave no ticket below its limit', 'draws of its cell before it and leaves no ticket below its limit', 'draw of its cell before it and leave no ticket below its limit'][count],
+    drawn: (count) => ['draws before it leave no ticket below its limit', 'draws of its cell before it and leaves no ticket below its limit',
+      'draw of its cell before it and leave no ticket below its limit'][count],
     before: (count) => ['no command has its words', 'is before it wherever it agrees', 'are before it wherever it agrees'][count],
   };
   function noteOf({ line, reason, others }) {
@@ -79,8 +80,11 @@ const rowWords = (() => {
     return `rule ${line} never matches: ${who}${REASONS[reason](count)}`;
   }
 
-  // A decision as it is printed, a text for each line, without its port and without the spaces of the other lines.
-  const decisionOf = ({ port, first, more }) => [first.slice(`${port} `.length), ...more.split('\n')].map((line) => line.trim()).filter(Boolean);
+  // A decision as it is printed, a text for each line, without its port and without the spaces before the other lines.
+  function decisionOf({ port, first, more }) {
+    const own = first.startsWith(`${port} `) ? first.slice(`${port} `.length) : first;
+    return [own, ...more.split('\n')].map((line) => line.trim()).filter(Boolean);
+  }
 
   return { HEADS, cellOf, courseOf, decisionOf, differenceOf, digits, hex, isIn, kindsIn, labelsOf, lineOf, noteOf, packetOf, ruleOf, valuesIn, wordsOf };
 })();
