@@ -3,8 +3,8 @@
 // Up to how many differences all groups are open at first.
 const MOST_OPEN = 12;
 
-// The differences that compare printed, and null if it printed a fault.
-const differencesIn = (compare) => (/^(same$|[-+~]+ )/m.test(compare.text) ? picture.readCompare(compare.text) : null);
+// The differences that compare has, and null if it has a fault.
+const differencesIn = ({ rows }) => rows.differences?.map(rowWords.differenceOf) ?? null;
 
 function showCompare(map, compare, found) {
   $('compare-text').textContent = compare ? compare.text + compare.told : '';
@@ -99,23 +99,22 @@ let items = 0;
 function differenceItem(one) {
   items += 1;
   const what = made('p', { className: 'what', id: `difference-${items}` }, made('b', { textContent: `${one.sign} ` }),
-    made('code', { textContent: picture.wordsOf(one) }), ` ${picture.SIGNS.get(one.sign)}`);
+    made('code', { textContent: one.commands }), ` ${picture.SIGNS.get(one.sign)}`);
   const figure = made('div', { className: 'figure one' });
   differenceOf.set(figure, one);
   nearing.observe(figure);
   const packet = packetOf(one);
   if (packet === null) return made('li', {}, what, figure, made('p', { className: 'small', tabIndex: 0, textContent: noPacket(one) }));
-  const button = made('button', { type: 'button', className: 'plain witness' }, 'Ask this packet below: ', made('code', { textContent: packet }));
+  const button = made('button', { type: 'button', className: 'plain witness' }, 'Ask this packet below: ', made('code', { textContent: rowWords.packetOf(packet) }));
   button.setAttribute('aria-describedby', what.id);
   button.addEventListener('click', () => askPacket(packet));
   return made('li', {}, what, figure, button);
 }
 
 // Puts the packet of a difference into the box of packets, as often as it must come.
-function askPacket(line) {
-  const [, packet, after] = /^(\d+ [0-9A-F]* E[OE]P)(.*)$/.exec(line);
-  const times = Number((/times (\d+)/.exec(after) ?? [0, 1])[1]);
-  addLines(`${packet}\n`.repeat(Math.min(times, 1000)));
+const MOST_TIMES = 1000;
+function askPacket({ line, times }) {
+  addLines(`${line}\n`.repeat(Math.min(Number(times ?? 1), MOST_TIMES)));
   $('lines').focus();
   $('lines').scrollTop = $('lines').scrollHeight;
 }

@@ -30,19 +30,20 @@ function engine(port) {
     return given;
   }
 
-  // What came, of its bytes: the status, standard output, standard error, and name and bytes of each file that was written.
+  // What came, of its bytes: the status, standard output, standard error, the rows, and name and bytes of each file that was written.
   function unpacked(told) {
     const view = new DataView(told.buffer, told.byteOffset, told.length);
     const pieces = [];
     for (let at = 4; at < told.length;) {
       const length = view.getUint32(at, true);
+      if (length > told.length - at - 4) throw Error('the answer is cut');
       pieces.push(told.slice(at + 4, at + 4 + length));
       at += 4 + length;
     }
-    const [out, more, ...rest] = pieces;
+    const [out, more, rows, ...rest] = pieces;
     const written = [];
     for (let k = 0; k < rest.length; k += 2) written.push([decoder.decode(rest[k]), rest[k + 1]]);
-    return { status: view.getUint32(0, true), out, told: decoder.decode(more), written };
+    return { status: view.getUint32(0, true), out, told: decoder.decode(more), rows, written };
   }
 
   function once(given, room) {

@@ -3,18 +3,12 @@
 // How many askers a sentence names; more are a number and a list.
 const MOST_ASKERS = 4;
 
-// Who may load: of each line the ports, the initiator, the key, and when.
-function askersIn(text) {
-  const line = /^ *loads (?:of ([\d,]+) bytes )?by port (\d+)-(\d+) initiator (\S+) key (\S+)(?: (until quotas are spent|only after quotas are spent))?$/gm;
-  return [...text.matchAll(line)].map(([, size, low, high, initiator, key, when]) => ({ size, low, high, initiator, key, when }));
-}
-
 // Whether each rule of a table has * for its word of this number, so that no rule names a value there.
 const namesNone = (table, k) => table.split('\n').map((line) => line.split(';')[0].trim()).filter((line) => line && !line.startsWith('.')).every((line) => line.split(/ +/)[k] === '*');
 
 function askerWords({ low, high, initiator, key }, table) {
   const all = (what, k) => (namesNone(table, k) ? `any ${what}` : `each ${what} that no rule names`);
-  const who = initiator === '*' ? all('initiator', 2) : `initiator ${initiator}`, how = key === '*' ? all('key', 1) : `key ${key}`;
+  const who = initiator === null ? all('initiator', 2) : `initiator ${rowWords.hex(initiator, 2)}`, how = key === null ? all('key', 1) : `key ${rowWords.hex(key, 2)}`;
   return `${who} with ${how} at ${low === high ? `port ${low}` : `ports ${low} to ${high}`}`;
 }
 
@@ -28,10 +22,10 @@ function kindWords(askers, when, table) {
 
 // The answer of a rehearsal of all askers, as words and as a colour.
 function answerOf(done, is_after, table = '') {
-  const askers = askersIn(done.text), told = (done.text + done.told).trimEnd();
-  const kinds = [undefined, 'until quotas are spent', 'only after quotas are spent'].map((when) => kindWords(askers, when, table)).filter(Boolean);
-  if (kinds.length > 0) return { words: kinds.join(' Also '), name: askers.some(({ when }) => when === undefined) ? 'yes' : 'warn', askers: askers.length };
-  if (!/^ *loads .*by nobody$/m.test(done.text)) return { words: `it is not known. ${told}`, name: 'warn', askers: 0 };
+  const askers = done.rows.loaders;
+  if (!askers) return { words: `it is not known. ${(done.text + done.told).trimEnd()}`, name: 'warn', askers: 0 };
+  const kinds = ['', 'until quotas are spent', 'only after quotas are spent'].map((when) => kindWords(askers, when, table)).filter(Boolean);
+  if (kinds.length > 0) return { words: kinds.join(' Also '), name: askers.some(({ when }) => when === '') ? 'yes' : 'warn', askers: askers.length };
   return { words: is_after ? 'nobody can load: the instrument cannot be changed in flight any more.' : 'nobody can load.', name: 'bad', askers: 0 };
 }
 
@@ -56,10 +50,10 @@ async function answers(is_old) {
   return found.map((one) => ({ ...one, answer: one.answer ?? answerOf(one.done, Boolean(one.is_after), one.table) }));
 }
 
-// Of which images it was asked, and at which node.
-function askedWords(new_image, old_image, is_guarded) {
-  const size = (image) => `${image.written[0][1].length} bytes`, is_old = old_image?.status === 0;
-  const own = is_old ? `Asked of the image of old.policy, ${size(old_image)}; before, of that of new.policy, ${size(new_image)}` : `Asked of its own image, ${size(new_image)}`;
+// Of which images it was asked under new.policy and under old.policy, and at which node.
+function askedWords(after, before, is_guarded) {
+  const size = ({ done }) => (done.rows.loaders ? `, ${done.rows.size} bytes` : '');
+  const own = before ? `Asked of the image of old.policy${size(after)}; before, of that of new.policy${size(before)}` : `Asked of its own image${size(after)}`;
   const guarded = is_guarded ? ' A program of the node\'s file is asked for each initiator with key 00, and for initiator 67 with each key.' : '';
   return `${own}; at ${is_node() ? 'the node of node.toml' : 'a node of 32 ports'}.${guarded}`;
 }
@@ -72,10 +66,9 @@ async function showLoaders(new_image, old_image, stale) {
     $('loaders').replaceChildren(answerLine('After the change', { words: 'it is not known who can load: new.policy has a fault.', name: 'warn' }));
     return;
   }
-  const found = await answers(old_image?.status === 0);
+  const found = await answers(old_image?.status === 0), is_guarded = guardOfNode() !== null, [after, before] = is_guarded ? found.slice(1) : found;
   if (stale()) return;
-  $('loaders').replaceChildren(...found.map(({ head, answer }) => answerLine(head, answer)),
-    made('p', { className: 'small', textContent: askedWords(new_image, old_image, guardOfNode() !== null) }));
+  $('loaders').replaceChildren(...found.map(({ head, answer }) => answerLine(head, answer)), made('p', { className: 'small', textContent: askedWords(after, before, is_guarded) }));
   if (found.every(({ answer }) => answer.askers <= MOST_ASKERS)) return;
   $('all-loaders').hidden = false;
   $('loaders-text').textContent = found.filter(({ done }) => done).map(({ head, done }) => `${head}\n${done.text}`).join('');

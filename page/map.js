@@ -3,22 +3,21 @@
 const linesOf = (text) => [...text.matchAll(/^ *(?:\S+ )?(?:line|rule) (\d+)\b/gm)].map((found) => Number(found[1]));
 const roomOf = (id) => Math.max(260, $(id).clientWidth - 4);
 
-// What is shown of the last table without a fault: what map printed, the differences, and the chart that is drawn of it.
+// What is shown of the last table without a fault: the lines of its map, its notes, the differences, and the chart that is drawn of it.
 let shown = null;
 
 // The fields above the map: of which commands it is asked. An empty one asks of all.
 const ASK_FIELDS = ['kind', 'key', 'initiator', 'extended', 'address', 'port'];
 const question = () => ASK_FIELDS.flatMap((name) => ($(`ask-${name}`).value.trim() ? [`--${name}`, $(`ask-${name}`).value.trim()] : []));
 
-// Whether a map came, whole or with its first lines only: then the status is 1, and what is too many is on standard error.
-const isCut = (map) => map.status === 1 && /^\S+ \S+ \S+ \S+ \S+(?: port \S+)? : /.test(map.text);
-const isMap = (map) => map.status === 0 || isCut(map);
+// Whether a map came, whole or with its first lines only.
+const isMap = ({ rows }) => rows.lines !== undefined;
 
 // What is said above the map: of which commands it is, or why it is the one from before.
 function saidOfMap(map) {
-  if (isCut(map)) return `This is only a part of the map: ${/^ *(the map has .*)$/m.exec(map.told)?.[1] ?? 'it has more lines'}`;
   if (map.status === 2) return 'A field above the map has a value that it may not have. This is the map from before.';
-  if (map.status !== 0) return 'The table has a fault. This is the map of the last one without.';
+  if (!isMap(map)) return 'The table has a fault. This is the map of the last one without.';
+  if (!map.rows.is_whole) return `This is only a part of the map, its first ${counted(map.rows.lines.length, 'line', 'lines')}: ask of fewer commands in the fields above it.`;
   return question().length > 0 ? `The map and the differences are of these commands only: ${question().join(' ')}` : '';
 }
 
@@ -28,7 +27,7 @@ function showMap(map) {
   $('map').classList.toggle('stale', is_bad);
   $('said-map').textContent = saidOfMap(map);
   if (is_bad) return;
-  shown = { text: map.text, differences: [] };
+  shown = { lines: map.rows.lines.map(rowWords.lineOf), notes: map.rows.notes.map(rowWords.noteOf), differences: [] };
   drawMap();
 }
 
@@ -112,7 +111,7 @@ const legendList = (chart) => made('ul', { className: 'legend' }, ...picture.leg
 
 function drawMap() {
   if (!shown) return;
-  const chart = picture.chartOf(shown.text, roomOf('map'), shown.differences);
+  const chart = picture.chartOf(shown.lines, roomOf('map'), shown.differences);
   shown.chart = chart;
   coming.disconnect();
   $('map').classList.toggle('narrow', chart.is_narrow);
@@ -128,10 +127,12 @@ function drawMap() {
 function drawAll() { for (const row of $('map').querySelectorAll('.band')) drawBand(row); }
 
 // The map as a table, a row for each line.
+const LINE_HEADS = [...picture.FIELDS, 'Addresses', 'Port', 'What the table asks'];
+const cellsOf = ({ words, addresses, course }) => [...words.slice(0, -1), addresses, words[words.length - 1], course];
 function linesTable(lines) {
-  const heads = [...picture.FIELDS, 'Addresses', 'Port', 'What the table asks'].map((head) => made('th', { scope: 'col', textContent: head }));
+  const heads = LINE_HEADS.map((head) => made('th', { scope: 'col', textContent: head }));
   const rows = lines.map((line) => made('tr', {},
-    ...[...line.fields, line.addresses, line.port, line.course].map((words) => made('td', { textContent: words }))));
+    ...cellsOf(line).map((words) => made('td', { textContent: words }))));
   const caption = made('caption', { textContent: `What new.policy decides: ${counted(rows.length, 'line', 'lines')}` });
   return made('table', {}, caption, made('thead', {}, made('tr', {}, ...heads)), made('tbody', {}, ...rows));
 }

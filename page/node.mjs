@@ -1,12 +1,13 @@
 // node.mjs PAGE.html: does jobs in the module of a made page, by its own engine. A line of JSON comes for each job, with its words
-// and files, and one goes out with what came of it. Bytes are base64.
+// and files, and one goes out with what came of it, and with what its rows say. Bytes are base64.
 import { readFileSync } from 'node:fs';
 import { createInterface } from 'node:readline';
 import { gunzipSync } from 'node:zlib';
 
 const page = readFileSync(process.argv[2], 'utf8');
-const module = gunzipSync(Buffer.from(/id="module">([^<]*)</.exec(page)[1], 'base64'));
-const engine = new Function(`${readFileSync(new URL('engine.js', import.meta.url), 'utf8')}\nreturn engine;`)();
+const scripts = ['engine.js', 'base85.js', 'rows.js', 'row_words.js', 'said.js'].map((name) => readFileSync(new URL(name, import.meta.url), 'utf8'));
+const { engine, bytesOf85, rowsOf, saidOf } = new Function(`${scripts.join('')}\nreturn { engine, bytesOf85, rowsOf, saidOf };`)();
+const module = gunzipSync(bytesOf85(/id="module">([^<]*)</.exec(page)[1]));
 
 // How much of its stack a call used: the stack is first in memory and goes down from STACK; it is zeros before.
 const STACK = Number(process.env.MODULE_STACK ?? 1048576);
@@ -28,6 +29,6 @@ for await (const line of createInterface({ input: process.stdin })) {
   const { words, files } = JSON.parse(line);
   port.onmessage({ data: { id: 1, words, files: files.map(([name, bytes]) => [name, new Uint8Array(Buffer.from(bytes, 'base64'))]) } });
   const { done, fault } = came;
-  console.log(JSON.stringify(fault ? { fault } : { status: done.status, out: base64(done.out), told: done.told, ms: done.ms, pages: done.pages, stack: used(),
-    written: done.written.map(([name, bytes]) => [name, base64(bytes)]) }));
+  console.log(JSON.stringify(fault ? { fault } : { status: done.status, out: base64(done.out), told: done.told, said: saidOf(rowsOf(done.rows)), ms: done.ms, pages: done.pages,
+    stack: used(), written: done.written.map(([name, bytes]) => [name, base64(bytes)]) }));
 }

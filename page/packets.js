@@ -71,8 +71,9 @@ async function showPackets(is_table, stale) {
   const why = !is_table ? '' : lacking || (judged && !is_judged && good.length > 0 ? `${judged.text}${judged.told}` : judged?.told ?? '');
   $('said-judged').textContent = why.trimEnd();
   $('said-judged').className = `said ${why ? 'never' : ''}`;
-  const [words, rules, answers, read] = [what.text, which.text, is_judged ? judged.text : '', replies?.text ?? ''].map(blocksOf);
-  $('judged').replaceChildren(...words.map((block, k) => packetRow(good[k], block, is_table ? rules[k] : null, answers[k], read[k])));
+  const [words, answers, read] = [what.text, is_judged ? judged.text : '', replies?.text ?? ''].map(blocksOf), decisions = is_table ? which.rows.decisions ?? [] : [];
+  const undecided = is_table ? which.text + which.told : 'the table has a fault';
+  $('judged').replaceChildren(...words.map((block, k) => packetRow(good[k], block, decisions[k] ?? { first: undecided, more: '' }, answers[k], read[k])));
   if ($('steps').open) await traced(stale);
 }
 
@@ -88,13 +89,12 @@ function cell(name, block, head) {
   return data;
 }
 
-function packetRow(packet, block, which, answer, words) {
+function packetRow(packet, block, decision, answer, words) {
   const port = made('td', { className: 'p', textContent: /^\d*/.exec(block[0])[0] });
   port.dataset.head = 'Port';
   const row = made('tr', {}, made('td', { className: 'n', textContent: packet.numbers.join(', ') }), port, cell('s', block, 'What it is'));
-  const verdict = /verdict (\d+)/.exec(which?.[0] ?? '');
-  if (verdict) row.className = `v${verdict[1]}`;
-  row.append(cell('d', which ?? ['the table has a fault'], 'Which rule'));
+  if (decision.decider === 'table') row.className = `v${decision.verdict}`;
+  row.append(cell('d', rowWords.decisionOf(decision), 'Which rule'));
   const replied = cell('j', answer ? words ?? answer : null, 'What the node answers');
   if (answer) replied.title = answer[0];
   row.append(replied);

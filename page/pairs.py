@@ -9,6 +9,7 @@ from pathlib import Path
 from typing import Any, Callable, Optional
 
 from browser import Browser
+from printed import decisions, loaders
 from screen import Tally, begin, choose_first
 
 PAIRS = 500
@@ -17,15 +18,21 @@ KINDS, BYTES = ("read", "write", "rmw", "any"), ("*", "20", "42", "67")
 EXTENDED, QUOTAS, VERDICTS = ("*", "00", "01", "FF"), ("-", "-", "-", "0:0:2", "0:0:5", "0:1:1"), ("0", "0", "10", "3", "12")
 EDGES = (0x00000000, 0x80000000, 0xA0000000, 0xA0001000, 0xA0001001, 0xA0002000, 0xA0010000, 0xFFFFFFFF)
 MAPS = "2"
+# A packet whose header is right, and one that is discarded. The packets of the first differences follow them.
+PACKETS, MOST_PACKETS = "3 FE014C4267000100A0000000000010DC EOP\n0 FE014C4267000100A0000000000010DD EOP\n", 6
+MOST_ASKERS = 4
+NOBODY = "nobody can load: the instrument cannot be changed in flight any more."
 
-# What the screen has of the map: the lines of its boxes, the rows of its table, and the notes at the editor; and of the differences
-# their words and packets, and the rules of each group.
+# What the screen has of the map: the lines of its boxes, the rows of its table, and the notes at the editor; of the differences their
+# words and packets, and the rules of each group; the sentences on loads; and of each packet the cell that says which rule decides.
 SCREEN = """drawAll(); $('map-lines').open = true; $('map-table').replaceChildren(linesTable(shown.chart.lines)); for (const group of document.querySelectorAll('.group')) group.open = true;
   const text = (e) => e.textContent;
   setTimeout(() => { const seen = { boxes: [...document.querySelectorAll('#map .frame')].map((e) => e.dataset.line), rows: [...document.querySelectorAll('#map-table tbody tr')].map((r) => [...r.cells].map(text)),
     notes: text($('said-new')).split('\\n').filter((line) => /^rule \\d+ never matches/.test(line)),
     differences: [...document.querySelectorAll('.group')].flatMap((g) => [...g.querySelectorAll('li')].map((li) => [text(li.querySelector('.what b')).trim(), text(li.querySelector('.what code')), text(li.querySelector('button code')),
-      /old .*(?=: [\\d,]+ place)/.exec(text(g.querySelector('summary')))[0]])) };
+      /old .*(?=: [\\d,]+ place)/.exec(text(g.querySelector('summary')))[0]])),
+      loads: [...document.querySelectorAll('#loaders .answer')].map(text),
+      decisions: [...document.querySelectorAll('#judged td.d')].map((cell) => [text(cell.querySelector('div')), ...[...cell.querySelectorAll('.more')].flatMap((more) => text(more).split('\\n'))]) };
     $('map-lines').open = false; done(seen); }, 60);"""
 
 
@@ -72,8 +79,29 @@ def rules_of(course: str) -> str:
     return f"rule {', '.join(found)}" if found else "no rule"
 
 
+def asker_words(asker: tuple[str, str, str, str], table: str) -> str:
+    """One who loads, as the sentence names it."""
+    rules = [line.split() for line in table.splitlines() if not line.startswith(".")]
+
+    def field(what: str, value: str, column: int) -> str:
+        named = any(rule[column] != "*" for rule in rules)
+        return f"{what} {value}" if value != "*" else f"each {what} that no rule names" if named else f"any {what}"
+    low, high = asker[0].split("-")
+    return f"{field('initiator', asker[1], 2)} with {field('key', asker[2], 1)} at " + (f"port {low}" if low == high else f"ports {low} to {high}")
+
+
+def sentence_of(text: str, table: str, nobody: str) -> str:
+    """Who can load under a table, of what `rehearse --any` prints."""
+    kinds = []
+    for when in ("", "until quotas are spent", "only after quotas are spent"):
+        own = [asker for asker in loaders(text) if asker[3] == when]
+        who = f"{len(own)} askers" if len(own) > MOST_ASKERS else "; and ".join(asker_words(asker, table) for asker in own)
+        kinds += [f"{who} can load{' ' * bool(when)}{when}."] if own else []
+    return " Also ".join(kinds) or nobody
+
+
 def wanted_of(map_text: str, compare_text: str) -> dict[str, Any]:
-    """What the screen has to have, of what the words printed."""
+    """What the screen has to have of the map and the differences, of what the words printed."""
     lines = map_text.rstrip("\n").split("\n")
     own = [line for line in lines if not line.startswith("rule ")]
     rows = []
@@ -94,7 +122,7 @@ def differs(seen: dict[str, Any], wanted: dict[str, Any]) -> Optional[str]:
     """What of the screen is not as printed. A line of some ports may have several boxes."""
     if set(seen["boxes"]) != set(wanted["boxes"]):
         return f"boxes: {sorted(set(seen['boxes']) ^ set(wanted['boxes']))}"
-    for what in ("rows", "notes"):
+    for what in ("rows", "notes", "loads", "decisions"):
         if seen[what] != wanted[what]:
             return f"{what}: {seen[what]} and not {wanted[what]}"
     if sorted(seen["differences"]) != sorted(wanted["differences"]):
@@ -109,10 +137,14 @@ def try_pairs(browser: Browser, tally: Tally, program: Optional[Path] = None) ->
         old, new = pair(chance)
         files = {"old": old, "new": new}
         wanted = wanted_of(printed(["map", "new", "--maps", MAPS], files), printed(["compare", "old", "new", "--maps", MAPS], files))
-        begin(browser, new, old, maps=MAPS)
+        lines = PACKETS + "".join(re.match(".* EOP", packet)[0] + "\n" for _, _, packet, _ in wanted["differences"][:MOST_PACKETS])
+        after, before = (printed(["rehearse", *words, "--any", "--maps", MAPS], files) for words in (("old", "new"), ("new", "old")))
+        wanted["loads"] = [f"After the change {sentence_of(after, new, NOBODY)}", f"Before {sentence_of(before, old, 'nobody can load.')}"]
+        wanted["decisions"] = decisions(printed(["decide", "lines", "new", "--maps", MAPS, "--ports", "32"], {**files, "lines": lines}))
+        begin(browser, new, old, lines, maps=MAPS)
         seen = browser.later(SCREEN)
         why = differs(seen, wanted)
-        count += len(wanted["rows"]) + len(wanted["differences"])
+        count += len(wanted["rows"]) + len(wanted["differences"]) + len(wanted["decisions"]) + len(loaders(after + before))
         if why:
             bad += 1
             print(f"of\n{new}and before it\n{old}{why}")

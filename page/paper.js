@@ -46,7 +46,7 @@ function headOfPaper() {
 const inRow = (band) => made('tr', {}, made('td', {}, band));
 function mapOfPaper() {
   if (!shown) return [part('The map', made('p', { textContent: 'The table has a fault: there is no map.' }))];
-  const chart = picture.chartOf(shown.text, PAPER_ROOM, shown.differences, true);
+  const chart = picture.chartOf(shown.lines, PAPER_ROOM, shown.differences, true);
   const rows = chart.bands.map((band, k) => {
     const { svg, signs } = picture.drawnBand(chart, band);
     const words = made('div', { className: 'labels' }, made('b', { textContent: `${k + 1}` }), ` ${band.labels.join(' ')} `, made('b', { textContent: signs.join(' ') }));
@@ -61,17 +61,21 @@ function mapOfPaper() {
 function linesOfPaper(chart) {
   const numbers = new Map();
   chart.bands.forEach((band, k) => { for (const line of band.lines) numbers.set(line, [...(numbers.get(line) ?? []), k + 1]); });
-  const rows = chart.lines.map((line) => [(numbers.get(line) ?? []).join(', '), ...line.fields, line.addresses, line.port, line.course]);
-  const notes = chart.notes.map((textContent) => made('p', { textContent }));
-  return part(`What the bands say: ${counted(rows.length, 'line', 'lines')}`, tableOf('lines', ['Band', ...picture.FIELDS, 'Addresses', 'Port', 'What the table asks'], rows), ...notes);
+  const rows = chart.lines.map((line) => [(numbers.get(line) ?? []).join(', '), ...cellsOf(line)]);
+  const notes = shown.notes.map((textContent) => made('p', { textContent }));
+  return part(`What the bands say: ${counted(rows.length, 'line', 'lines')}`, tableOf('lines', ['Band', ...LINE_HEADS], rows), ...notes);
 }
 
+function differenceCells(one) {
+  const packet = packetOf(one);
+  return [one.sign, one.commands, rowWords.courseOf(one.old), rowWords.courseOf(one.new), packet ? rowWords.packetOf(packet) : noPacket(one)];
+}
 function differencesOfPaper() {
   if (!$('both').checked) return [];
   const groups = groupsOf(shown?.differences ?? []).flatMap((group) => [
     made('p', { className: 'rules mono' }, `old.policy ${rulesIn('old', group.old).map(({ text }) => text).join(' / ')}`, made('br', {}),
       `new.policy ${rulesIn('new', group.own).map(({ text }) => text).join(' / ')}`),
-    tableOf('differences', ['', 'Commands', 'Old asks', 'New asks', 'A packet'], group.all.map((one) => [one.sign, picture.wordsOf(one), one.old, one.new, packetOf(one) ?? noPacket(one)])),
+    tableOf('differences', ['', 'Commands', 'Old asks', 'New asks', 'A packet'], group.all.map(differenceCells)),
   ]);
   return [part($('h-differs').textContent, ...groups)];
 }

@@ -1,128 +1,49 @@
-// Pictures of what `map` and `compare` print. A picture says nothing that the text does not.
+// Pictures of the rows of `map` and `compare`. A picture says nothing that the text does not.
 const picture = (() => {
   'use strict';
   const SVG = 'http://www.w3.org/2000/svg';
   const END = 2 ** 32, CHAR = 7.25, STEP = 22, GAP = 46, LEAST = 84;
   const VERDICTS = new Map([
-    ['0', ['v0', 'yes', 'verdict 0, authorised']],
-    ['3', ['v3', 'key', 'verdict 3, invalid key']],
-    ['10', ['v10', 'no', 'verdict 10, not authorised']],
-    ['12', ['v12', 'address', 'verdict 12, invalid logical address']],
+    [0, ['v0', 'yes', 'verdict 0, authorised']],
+    [3, ['v3', 'key', 'verdict 3, invalid key']],
+    [10, ['v10', 'no', 'verdict 10, not authorised']],
+    [12, ['v12', 'address', 'verdict 12, invalid logical address']],
   ]);
   const SIGNS = new Map([['+', 'lets more pass'], ['-', 'lets fewer pass'], ['+-', 'lets more and fewer pass'], ['~', 'refuses or draws otherwise']]);
   // How an outline of each sign is drawn: solid, hatched, both, or dotted.
   const OUTLINES = new Map([['+', 'more'], ['-', 'fewer'], ['+-', 'both'], ['~', 'otherwise']]);
-  const FIELDS = ['KIND', 'KEY', 'INIT', 'EXT'], HEADS = [...FIELDS, 'PORT'];
-  // How long a word of a label may be, and how many values it names one by one.
-  const MOST_LABEL = 16, MOST_VALUES = 4;
-  const hex = (n) => n.toString(16).toUpperCase().padStart(8, '0');
+  const { HEADS } = rowWords, PORT = HEADS.indexOf('PORT'), PORTS = 32, FIELDS = HEADS.slice(0, PORT);
   const wide = (text) => CHAR * text.length;
 
-  // ---- what is printed, read
+  // ---- rows, put together
 
-  // The ranges of an address word, each [low, the address after high]: one for all bytes, or one for the first and one for the last.
-  function ranges(word) {
-    if (word === '*' || word === 'else') return [];
-    return word.split('/').map((part, k, parts) => {
-      if (part === '*') return [parseInt(parts[0], 16), END];
-      const [low, high] = part.split('-').map((digits) => parseInt(digits, 16));
-      return [low, high + 1];
-    });
-  }
-
-  // The steps of a course: the cell and the limit of a quota, the verdict, and the rule.
-  function steps(course) {
-    return course.split(' else ').map((step) => {
-      const found = /^(?:(\d+:\d+):(\d+) )?verdict (\d+) (rule \d+|no rule)$/.exec(step);
-      if (!found) throw Error(`no course: ${step}`);
-      const [, cell, limit, verdict, rule] = found;
-      return { cell, limit, verdict, rule };
-    });
-  }
-
-  // The numbers of the rules of a course.
-  const rulesOf = (course) => steps(course).flatMap(({ rule }) => (rule === 'no rule' ? [] : [Number(rule.slice(5))]));
-
-  // The ports that a word says, and the word for ports, as rmapctl has it.
-  const ALL_PORTS = [...Array(32).keys()];
-  function portsIn(word) {
-    if (word === '*') return ALL_PORTS;
-    const own = word.replace('!', '').split(',').map(Number);
-    return word.startsWith('!') ? ALL_PORTS.filter((port) => !own.includes(port)) : own;
-  }
-  function portWord(ports) {
-    if (ports.length === ALL_PORTS.length) return '*';
-    return ports.length <= ALL_PORTS.length / 2 ? ports.join(',') : `!${ALL_PORTS.filter((port) => !ports.includes(port)).join(',')}`;
-  }
+  const bandOf = (sets, lines) => ({ sets, lines, words: rowWords.wordsOf(sets), labels: rowWords.labelsOf(sets) });
 
   // The bands of lines: those of one port with the same four words, since `else` has the addresses of none of the others there.
   // Ports with the same lines have one band, so a line of several ports may be in several.
   function bandsOf(lines) {
     const groups = new Map();
     for (const line of lines) {
-      const own = line.fields.join(' ');
+      const own = line.words.slice(0, PORT).join(' ');
       if (!groups.has(own)) groups.set(own, []);
       groups.get(own).push(line);
     }
     return [...groups.values()].flatMap((group) => {
-      const [{ fields }] = group, found = new Map();
-      if (group.every(({ port }) => port === '*')) return [{ fields, port: '*', lines: group }];
-      for (const port of ALL_PORTS) {
-        const own = group.filter((line) => portsIn(line.port).includes(port)), name = own.map(({ text }) => text).join('\n');
-        if (own.length) found.set(name, { ports: [...(found.get(name)?.ports ?? []), port], own });
+      const [{ sets }] = group, found = new Map();
+      if (group.every((line) => line.words[PORT] === '*')) return [bandOf(sets, group)];
+      for (let port = 0; port < PORTS; port += 1) {
+        const own = group.filter((line) => rowWords.isIn(line.sets[PORT], port)), name = own.map(({ text }) => text).join('\n');
+        if (own.length) found.set(name, { ports: (found.get(name)?.ports ?? 0n) | 1n << BigInt(port), own });
       }
-      return [...found.values()].map(({ ports, own }) => ({ fields, port: portWord(ports), lines: own }));
+      return [...found.values()].map(({ ports, own }) => bandOf([...sets.slice(0, PORT), ports], own));
     });
   }
 
-  function readMap(text) {
-    const lines = [], notes = [];
-    for (const line of text.trimEnd().split('\n')) {
-      if (line.startsWith('rule ')) { notes.push(line); continue; }
-      const [words, course] = line.split(' : ');
-      const [kind, key, init, ext, addresses, , port = '*'] = words.split(' ');
-      lines.push({ fields: [kind, key, init, ext], addresses, port, course, ranges: ranges(addresses), text: line });
-    }
-    return { lines, bands: bandsOf(lines), notes };
-  }
+  // The numbers of the rules of steps.
+  const rulesOf = (steps) => steps.flatMap(({ line }) => (line === 0 ? [] : [line]));
 
-  function readCompare(text) {
-    const lines = text.trimEnd().split('\n'), found = [];
-    for (let k = 0; k + 3 < lines.length; k += 4) {
-      const [sign, kind, key, init, ext, addresses, , port = '*'] = lines[k].split(' ');
-      found.push({ sign, fields: [kind, key, init, ext], addresses, port, ranges: ranges(addresses),
-        old: lines[k + 1].replace(/^ *old /, ''), new: lines[k + 2].replace(/^ *new /, ''), packet: lines[k + 3].trim() });
-    }
-    return found;
-  }
-
-  // Whether two words of a field have a byte, or a kind, in common.
-  function bytesOf(word) {
-    if (word === '*') return () => true;
-    const own = new Set(word.replace('!', '').split(',').map((digits) => parseInt(digits, 16)));
-    return word.startsWith('!') ? (byte) => !own.has(byte) : (byte) => own.has(byte);
-  }
-  const met = new Map();
-  function meet(one, other) {
-    if (one === other || one === '*' || other === '*') return true;
-    const name = `${one}/${other}`;
-    if (!met.has(name)) {
-      const a = bytesOf(one), b = bytesOf(other);
-      let is = false;
-      for (let byte = 0; byte < 256 && !is; byte += 1) is = a(byte) && b(byte);
-      met.set(name, is);
-    }
-    return met.get(name);
-  }
-  function kindsMeet(one, other) {
-    return one === 'any' || other === 'any' || one.split(',').some((kind) => other.split(',').includes(kind));
-  }
-  const fieldsMeet = (one, other) => kindsMeet(one[0], other[0]) && [1, 2, 3].every((k) => meet(one[k], other[k]));
-  // Ports are numbers in decimal, of which each is one of the bytes with these digits.
-  const bandMeets = (one, band) => fieldsMeet(one.fields, band.fields) && meet(one.port, band.port);
-
-  // The words of a difference, with its ports if they are not all.
-  const wordsOf = (one) => [...one.fields, one.addresses, ...(one.port === '*' ? [] : [`port ${one.port}`])].join(' ');
+  // Whether two rows have a command in common, but for the addresses.
+  const setsMeet = (one, other) => one.sets.every((set, k) => (set & other.sets[k]) !== 0n);
 
   // Whether commands of a difference may lie in a line of the map: its first address there, and its last.
   const overlap = ([a, b], [c, d]) => a < d && c < b;
@@ -209,7 +130,7 @@ const picture = (() => {
       if (edge === END) continue;
       const row = ends.findIndex((end) => at > end);
       if (row < 0) continue;
-      drawing.text(at + 1, y - 7 - 12 * row, hex(edge), 'small');
+      drawing.text(at + 1, y - 7 - 12 * row, rowWords.hex(edge, 8), 'small');
       ends[row] = at + 56;
     }
     for (const at of axis.breaks) {
@@ -219,29 +140,29 @@ const picture = (() => {
     }
   }
 
-  // A box of a course: a stripe for each verdict that it may give, and a frame that names the line. Words stand in `[from, to]`.
-  function courseBox(drawing, x, y, width, height, course, words, line) {
-    const own = steps(course), each = height / own.length;
-    own.forEach(({ verdict }, k) => drawing.rect(x, y + k * each, width, each, VERDICTS.get(verdict)[0]));
+  // A box of steps: a stripe for each verdict that they may give, and a frame that names the line. Words stand in `[from, to]`.
+  function stepsBox(drawing, x, y, width, height, steps, words, line) {
+    const each = height / steps.length;
+    steps.forEach(({ verdict }, k) => drawing.rect(x, y + k * each, width, each, VERDICTS.get(verdict)[0]));
     const frame = drawing.rect(x, y, width, height, 'frame');
     if (line) {
       frame.dataset.line = line;
-      frame.dataset.rules = rulesOf(course).join(' ');
+      frame.dataset.rules = rulesOf(steps).join(' ');
     }
-    if (words) courseWords(drawing, words[0], y, words[1] - words[0], height, own);
+    if (words) stepWords(drawing, words[0], y, words[1] - words[0], height, steps);
   }
-  function courseWords(drawing, x, y, width, height, own) {
-    const each = height / own.length;
-    own.forEach(({ cell, limit, verdict, rule }, k) => {
+  function stepWords(drawing, x, y, width, height, steps) {
+    const each = height / steps.length;
+    steps.forEach(({ quota, verdict, line }, k) => {
       const middle = y + k * each + each / 2 + 4;
       let at = x + 5;
-      const pill = `${cell} < ${limit}`;
-      if (cell !== undefined && wide(pill) + 12 < width) {
+      const pill = quota ? `${rowWords.cellOf(quota)} < ${quota.limit}` : '';
+      if (quota && wide(pill) + 12 < width) {
         drawing.put('rect', { x: at, y: middle - 12, width: wide(pill) + 8, height: 16, rx: 8, class: 'quota' });
         drawing.text(at + 4, middle, pill, 'pill');
         at += wide(pill) + 14;
       }
-      const short = VERDICTS.get(verdict)[1], all = [`${short}, ${rule}`, short, ''];
+      const short = VERDICTS.get(verdict)[1], all = [`${short}, ${rowWords.ruleOf(line)}`, short, ''];
       drawing.text(at, middle, all.find((words) => at + wide(words) < x + width + 1));
     });
   }
@@ -261,10 +182,9 @@ const picture = (() => {
 
   // What the colours and the outlines say: of each a small picture and its words.
   function legend(chart) {
-    const courses = chart.lines.map((line) => line.course);
-    const used = [...VERDICTS.keys()].filter((verdict) => courses.some((course) => steps(course).some((step) => step.verdict === verdict)));
+    const used = [...VERDICTS.keys()].filter((verdict) => chart.lines.some(({ steps }) => steps.some((step) => step.verdict === verdict)));
     const items = used.map((verdict) => [VERDICTS.get(verdict)[0], `${VERDICTS.get(verdict)[1]}: ${VERDICTS.get(verdict)[2]}`]);
-    if (courses.some((course) => course.includes(' else '))) items.push(['quota', '0:0 < 3: if the ticket of cell 0 of map 0 is below 3']);
+    if (chart.lines.some(({ steps }) => steps.length > 1)) items.push(['quota', '0:0 < 3: if the ticket of cell 0 of map 0 is below 3']);
     for (const sign of new Set(chart.differences.map((one) => one.sign))) items.push([`changed ${OUTLINES.get(sign)}`, `${sign} the new table ${SIGNS.get(sign)}`]);
     return items.map(([name, words]) => {
       const drawing = new Drawing(words, '');
@@ -283,7 +203,7 @@ const picture = (() => {
 
   // Outlines a difference in a row: its last addresses, and its first ones thinner where they are others.
   function outline(drawing, x, axis, y, height, one) {
-    const own = one.ranges, told = `${one.sign} ${wordsOf(one)}`, name = `changed ${OUTLINES.get(one.sign)}`;
+    const own = one.ranges, told = `${one.sign} ${one.commands}`, name = `changed ${OUTLINES.get(one.sign)}`;
     const [from, to] = own.length ? own[own.length - 1].map((edge) => axis.place.get(edge)) : [0, axis.width];
     drawing.rect(x + from + 1.5, y + 1.5, to - from - 3, height - 3, name).dataset.told = told;
     if (own.length < 2 || own[0][0] >= own[1][0]) return;
@@ -293,7 +213,7 @@ const picture = (() => {
 
   // The lines of a band that have a row for all, and those that have each a row of its own, since they name first and last addresses.
   const aloneIn = (band) => band.lines.filter((line) => line.ranges.length < 2), pairsIn = (band) => band.lines.filter((line) => line.ranges.length === 2);
-  const highOf = (line) => STEP * steps(line.course).length;
+  const highOf = (line) => STEP * line.steps.length;
   const rowOf = (band) => Math.max(STEP, ...aloneIn(band).map(highOf));
   const heightOf = (band) => pairsIn(band).reduce((sum, line) => sum + 3 + highOf(line), rowOf(band)) + 6;
 
@@ -305,9 +225,9 @@ const picture = (() => {
     for (const line of [...alone.filter((own) => own.ranges.length === 0), ...alone.filter((own) => own.ranges.length === 1)]) {
       const [own] = line.ranges;
       const [from, to] = own ? own.map((edge) => axis.place.get(edge)) : [0, axis.width];
-      courseBox(drawing, from, 1, to - from, height, line.course, own ? [from, to] : freeStretch(axis, alone), line.text);
+      stepsBox(drawing, from, 1, to - from, height, line.steps, own ? [from, to] : freeStretch(axis, alone), line.text);
     }
-    const own = chart.sets.filter(([one]) => bandMeets(one, band)).flatMap(([, some]) => some);
+    const own = chart.groups.filter(([one]) => setsMeet(one, band)).flatMap(([, some]) => some);
     const here = own.filter((one) => alone.some((line) => addressesMeet(one.ranges, line.ranges.length ? [line.ranges[0], line.ranges[0]] : [])));
     for (const one of here) outline(drawing, 0, axis, 1, height, one);
     const some = drawPairs(drawing, axis, band, 1 + height, own);
@@ -322,7 +242,7 @@ const picture = (() => {
       const [c, d] = last.map((edge) => axis.place.get(edge));
       drawing.line([[axis.place.get(first[0]), at + high / 2], [d, at + high / 2]], 'link');
       firstBox(drawing, 0, axis, at, high, line.ranges);
-      courseBox(drawing, c, at, d - c, high, line.course, [c, d], line.text);
+      stepsBox(drawing, c, at, d - c, high, line.steps, [c, d], line.text);
       const some = own.filter((one) => addressesMeet(one.ranges, line.ranges));
       for (const one of some) outline(drawing, 0, axis, at, high, one);
       y += high + 3;
@@ -330,37 +250,23 @@ const picture = (() => {
     });
   }
 
-  // A word of a label, if it is long: a run of values by its ends, and other values by their number.
-  function short(word) {
-    const [, not, rest] = /^(!?)(.*)$/.exec(word), values = rest.split(',');
-    if (word.length <= MOST_LABEL && values.length <= MOST_VALUES) return word;
-    if (!/^[0-9A-F]+$/.test(values[0])) return word.slice(0, MOST_LABEL);
-    const base = values.every((value) => /^[0-9A-F]{2}$/.test(value)) ? 16 : 10, numbers = values.map((value) => parseInt(value, base));
-    if (numbers.every((number, k) => k === 0 || number === numbers[k - 1] + 1)) return `${not}${values[0]}..${values[values.length - 1]}`;
-    return `${not ? 'not ' : ''}${values.length} values`;
-  }
-
   // What a map is drawn of: its bands with their words, the axis in so much room, and the differences by their words. With `is_above`
   // all the room is for the bands.
-  function chartOf(text, room, differences, is_above = false) {
-    const { lines, bands, notes } = readMap(text), has_ports = bands.some((band) => band.port !== '*');
-    const heads = has_ports ? HEADS : FIELDS;
-    for (const band of bands) {
-      band.words = [...band.fields, band.port].slice(0, heads.length);
-      band.labels = band.words.map(short);
-    }
+  function chartOf(lines, room, differences, is_above = false) {
+    const bands = bandsOf(lines), heads = bands.some(({ words }) => words[PORT] !== '*') ? HEADS : FIELDS;
+    for (const band of bands) for (const names of [band.words, band.labels]) names.length = heads.length;
     const columns = heads.map((head, k) => Math.max(wide(head), ...bands.map((band) => wide(band.labels[k]))) + 12);
     const left = columns.reduce((a, b) => a + b, differences.length ? 30 : 0);
     const told = lines.flatMap((line) => line.ranges).concat(differences.flatMap((one) => one.ranges));
-    const sets = new Map();
+    const groups = new Map();
     for (const one of differences) {
-      const name = [...one.fields, one.port].join(' ');
-      if (!sets.has(name)) sets.set(name, [one, []]);
-      sets.get(name)[1].push(one);
+      const name = one.words.join(' ');
+      if (!groups.has(name)) groups.set(name, [one, []]);
+      groups.get(name)[1].push(one);
     }
     // Labels stand beside their band if half of the room is left for it, and else above it.
     const is_narrow = is_above || left > room / 2, axis = axisOf(told, Math.max(260, room - (is_narrow ? 0 : left) - 20));
-    return { lines, bands, notes, heads, columns, left, axis, is_narrow, differences, sets: [...sets.values()] };
+    return { lines, bands, heads, columns, left, axis, is_narrow, differences, groups: [...groups.values()] };
   }
 
   // The addresses, to stand above all bands.
@@ -373,21 +279,21 @@ const picture = (() => {
 
   // One difference: what is asked under the old table, and under the new one.
   function drawnDifference(one, room) {
-    const drawing = new Drawing(`${one.sign} ${wordsOf(one)}`, `old ${one.old}, new ${one.new}`), left = 40;
+    const drawing = new Drawing(`${one.sign} ${one.commands}`, `old ${rowWords.courseOf(one.old)}, new ${rowWords.courseOf(one.new)}`), left = 40;
     const axis = axisOf(one.ranges, Math.max(220, room - left - 12));
     drawAxis(drawing, axis, left, 32);
     let y = 42;
     for (const name of ['old', 'new']) {
-      const course = one[name], own = one.ranges, height = STEP * steps(course).length;
+      const own = one.ranges, height = STEP * one[name].length;
       drawing.text(2, y + 15, name, 'word');
       drawing.line([[left, y + height / 2], [left + axis.width, y + height / 2]], 'link');
       const [from, to] = own.length ? own[own.length - 1].map((edge) => left + axis.place.get(edge)) : [left, left + axis.width];
       if (own.length === 2) firstBox(drawing, left, axis, y, height, own);
-      courseBox(drawing, from, y, to - from, height, course, [from, to], null);
+      stepsBox(drawing, from, y, to - from, height, one[name], [from, to], null);
       y += height + 4;
     }
     return drawing.done();
   }
 
-  return { chartOf, drawnAxis, drawnBand, drawnDifference, heightOf, legend, readCompare, readMap, rulesOf, steps, portsIn, bytesOf, wordsOf, SIGNS, FIELDS, HEADS };
+  return { chartOf, drawnAxis, drawnBand, drawnDifference, heightOf, legend, rulesOf, SIGNS, FIELDS, HEADS };
 })();

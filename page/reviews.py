@@ -14,6 +14,7 @@ from pathlib import Path
 from typing import Any
 
 from browser import Browser
+from printed import IN_PAGE, map_lines
 from screen import WIDTHS, Tally, begin, choose_first, count_of, settled, text_of
 
 # What is pressed by WebDriver's keys.
@@ -97,9 +98,14 @@ def try_node(browser: Browser, tally: Tally) -> None:
     tally.note("a file that was put beside is of that review only", browser.run("return !files.has('science.bin') && puts.size === 0"))
 
 
+# Of each difference its words, its packet at the node, and that of compare.
+PACKETS = """const words = (packet) => packet && rowWords.packetOf(packet);
+  return shown.differences.map((one) => [one.commands, words(packetOf(one)), words(one.packet)])"""
+
+
 def try_witnesses(browser: Browser, tally: Tally) -> None:
     """The packet of each difference is for the node of the file, and is judged otherwise there."""
-    found = browser.run("return shown.differences.map((d) => [picture.wordsOf(d), packetOf(d), d.packet])")
+    found = browser.run(PACKETS)
     second = [(own, packet) for words, own, packet in found if words.endswith(" 42 01 80000000-8003FFFF")]
     tally.note("a difference in the second bank has a packet for it", len(second) > 0 and all(re.match(r"0 42014C..42000001800000000000", own) and own.endswith(" EOP") for own, _ in second), str(found))
     tally.note("so has compare, and none of its packets is unasked", all(re.match(r"0 42014C..42000001800000000000", packet) for _, packet in second) and not any("unasked" in packet for _, _, packet in found), str(found))
@@ -110,7 +116,7 @@ def try_witnesses(browser: Browser, tally: Tally) -> None:
     settled(browser)
     tally.note("a click asks the packet at that node", browser.run("return $('lines').value.trimEnd().split('\\n').pop()").startswith("0 4201"))
     begin(browser, ".version 2\nread * * 01 80000000 8000000F 0:0:3 0\nrmw * * 02 00000000 FFFFFFFF - 0\nread * * 00 A0000000 A0000FFF - 0 port 9\n", ".version 2\nread * * 01 80000000 8000000F 0:0:2 0\n", node=NODE + "[[map]]\ncells = 1\n")
-    found = browser.run("return shown.differences.map((d) => [picture.wordsOf(d), packetOf(d), d.none])")
+    found = browser.run(PACKETS)
     tally.note("how often a packet must come for the second bank", any(words.startswith("read * * 01") and (own or "").endswith("EOP times 3") for words, own, _ in found), str(found))
     said = browser.run("return [...document.querySelectorAll('#differences li p.small')].map((e) => e.textContent)")
     tally.note("a difference that the node cannot show says why", any("the extended address 02 is of no bank" in text for text in said) and any("the node has none of its ports" in text for text in said), str(said))
@@ -137,6 +143,9 @@ def try_guard(browser: Browser, tally: Tally) -> None:
 
 # ---- who can load
 
+# What is said of loaders.
+ANSWER = "return answerOf({ rows: { loaders: arguments[0] }, text: '', told: '' }, true, arguments[1] ?? '')"
+
 
 def try_loads(browser: Browser, tally: Tally) -> None:
     begin(browser, "any 77 67 FF 00000000 FFFFFFFF - 0 port 2\n".replace("any", ".version 2\nany"), "any * 67 FF 00000000 FFFFFFFF - 0\n")
@@ -154,11 +163,11 @@ def try_loads(browser: Browser, tally: Tally) -> None:
     tally.note("more than four askers are a number and a list", text_of(browser, "#loaders .answer") == "After the change 12 askers can load." and text_of(browser, "#loaders-text").count("initiator 4") == 12,
                text_of(browser, "#loaders .answer") + text_of(browser, "#loaders-text"))
     for when, name in (("", "yes"), (" until quotas are spent", "warn"), (" only after quotas are spent", "warn")):
-        answer = browser.run("return answerOf({ text: arguments[0], told: '' }, true)", f"loads by port 0-31 initiator 67 key *{when}\n")
+        answer = browser.run(ANSWER, [{"low": 0, "high": 31, "initiator": 0x67, "key": None, "when": when.strip()}])
         tally.note(f"the answer \"{when.strip() or 'both loads'}\"", answer["name"] == name and answer["words"] == f"initiator 67 with any key at ports 0 to 31 can load{when}.", str(answer))
-    both = browser.run("return answerOf({ text: arguments[0], told: '' }, true)", "loads by port 2-2 initiator 67 key 77\nloads by port 0-1 initiator 42 key 77 until quotas are spent\n")
+    both = browser.run(ANSWER, [{"low": 2, "high": 2, "initiator": 0x67, "key": 0x77, "when": ""}, {"low": 0, "high": 1, "initiator": 0x42, "key": 0x77, "when": "until quotas are spent"}])
     tally.note("two answers in one sentence", both["words"] == "initiator 67 with key 77 at port 2 can load. Also initiator 42 with key 77 at ports 0 to 1 can load until quotas are spent.", str(both))
-    named = browser.run("return answerOf({ text: arguments[0], told: '' }, true, arguments[1])", "loads by port 0-31 initiator * key *\n", "any * * FF 00000000 FFFFFFFF - 0\nread 20 * 00 00000000 FFFFFFFF - 0\n")
+    named = browser.run(ANSWER, [{"low": 0, "high": 31, "initiator": None, "key": None, "when": ""}], "any * * FF 00000000 FFFFFFFF - 0\nread 20 * 00 00000000 FFFFFFFF - 0\n")
     tally.note("who is any, and who is not named", named["words"] == "any initiator with each key that no rule names at ports 0 to 31 can load.", str(named))
     begin(browser, "wrong\n", "any * 67 FF 00000000 FFFFFFFF - 0\n")
     tally.note("of a table with a fault it is not known", "new.policy has a fault" in text_of(browser, "#loaders"), text_of(browser, "#loaders"))
@@ -216,8 +225,8 @@ def try_folds(browser: Browser, tally: Tally) -> None:
         wanted = browser.run("return new Set(shown.chart.bands.map((band) => band.words[shown.chart.heads.indexOf(arguments[0])])).size", field)
         tally.note(f"folded by {field}: {folds} folds of {bands} bands", folds == wanted and bands == all_, f"{wanted} {all_}")
     browser.run("$('fold').value = ''; $('fold').dispatchEvent(new Event('input'))")
-    shorts = browser.run("return ['!' + [...Array(60).keys()].map((n) => n.toString(16).toUpperCase().padStart(2, '0')).join(','), '20,22,24,26,28,2A', '20,21', '!1,3,5,7,9,11'].map((word) => "
-                         "{ const chart = picture.chartOf(`read ${word} * 00 * : verdict 0 rule 1\\n`, 900, []); return chart.bands[0].labels[1]; })")
+    words = ("!" + ",".join(f"{byte:02X}" for byte in range(60)), "20,22,24,26,28,2A", "20,21", "!01,03,05,07,09,0B")
+    shorts = browser.run(IN_PAGE + "return picture.chartOf(rowsIn(arguments[0]), 900, []).bands.map((band) => band.labels[1])", map_lines("".join(f"read {word} * 00 * : verdict 0 rule 1\n" for word in words)))
     tally.note("long sets are short in a label", shorts == ["!00..3B", "6 values", "20,21", "not 6 values"], str(shorts))
 
 
@@ -250,19 +259,23 @@ def try_joined(browser: Browser, tally: Tally) -> None:
 
 def try_cut(browser: Browser, tally: Tally) -> None:
     """A map of which only the first lines came."""
-    browser.run("""showMap({ status: 1, text: 'read 20 * 00 * : verdict 0 rule 1\\n', told: '    the map has over 1 line: ask of fewer commands by --kind\\n' })""")
+    printed = browser.run(IN_PAGE + "showMap({ status: 1, rows: { lines: rowsIn(arguments[0]), notes: [], is_whole: false }, text: '', told: '    the map has over 1 line' }); return $('map-text').textContent",
+                          map_lines("read 20 * 00 * : verdict 0 rule 1\n"))
     said = text_of(browser, "#said-map")
-    tally.note("a part of a map is drawn, and the page says so", said == "This is only a part of the map: the map has over 1 line: ask of fewer commands by --kind" and count_of(browser, "#map .band") == 1 and count_of(browser, "#map.stale") == 0, said)
+    tally.note("a part of a map is drawn, and the page says so", said == "This is only a part of the map, its first 1 line: ask of fewer commands in the fields above it." and printed.endswith("the map has over 1 line") and count_of(browser, "#map .band") == 1
+               and count_of(browser, "#map.stale") == 0, said)
     choose_first(browser)
 
 
 def try_many(browser: Browser, tally: Tally) -> None:
-    """2,000 bands and 20,000 differences, as texts that a word might print."""
-    took = browser.later("""const lines = [], found = [];
-      for (let k = 0; k < 2000; k += 1) lines.push(`read ${(k % 256).toString(16).toUpperCase().padStart(2, '0')} ${(k >> 8).toString(16).toUpperCase().padStart(2, '0')} 00 A0000000-A0000FFF : verdict 0 rule 1`);
-      for (let k = 0; k < 20000; k += 1) found.push({ sign: '+-'[k % 2], fields: ['read', ((k % 256).toString(16).toUpperCase().padStart(2, '0')), '*', '00'], addresses: 'A0000000-A0000FFF', port: '*',
-        ranges: [[0xA0000000, 0xA0001000]], old: `verdict 10 rule ${k % 50 + 1}`, new: 'verdict 0 rule 1', packet: `0 FE014C2067000000A0001000000001${k} EOP` });
-      const since = performance.now(); shown = { text: lines.join('\\n'), differences: found }; drawMap(); showDifferences(found);
+    """2,000 bands and 20,000 differences, as rows that the module might have."""
+    took = browser.later("""const lines = [], found = [], all = (1n << 256n) - 1n, step = (line, verdict) => [{ line, verdict, quota: null }];
+      const row = (key, initiators) => ({ port: 0, sets: [1n, 1n << BigInt(key), initiators, 1n, (1n << 32n) - 1n], is_rest: false, ranges: [[0xA0000000, 0xA0001000]] });
+      const since = performance.now();
+      for (let k = 0; k < 2000; k += 1) lines.push(rowWords.lineOf({ ...row(k % 256, 1n << BigInt(k >> 8)), steps: step(1, 0) }));
+      for (let k = 0; k < 20000; k += 1) found.push(rowWords.differenceOf({ ...row(k % 256, all), sign: '+-'[k % 2], old: step(k % 50 + 1, 10), new: step(1, 0), times: 1n,
+        packet: { bytes: new Uint8Array([0xFE, 1, 0x4C, k >> 8, k & 255]), end: 'EOP', is_asked: true } }));
+      shown = { lines, notes: [], differences: found }; drawMap(); showDifferences(found);
       const drawn = performance.now() - since;
       requestAnimationFrame(() => requestAnimationFrame(() => { const now = performance.now();
         const far = document.querySelectorAll('#map .band')[1900]; far.scrollIntoView(); setTimeout(() => { const group = document.querySelector('#differences .group'); group.open = true;
@@ -426,7 +439,7 @@ def count_paper(browser: Browser, tally: Tally, name: str, text: str) -> None:
         came = words_in(section(clean, f"{which}.policy", f"(?:{end})$" if which == "new" else end))
         tally.note(f"{name}: each line of {which}.policy once, with its number", came == wanted, came[:200])
     bands, lines, packets = browser.run("""const { chart, differences } = shown, numbers = (line) => chart.bands.flatMap((b, k) => b.lines.includes(line) ? [k + 1] : []).join(', ');
-      return [chart.bands.map((b, k) => `${k + 1} ${b.labels.join(' ')}`), chart.lines.map((l) => [numbers(l), ...l.fields, l.addresses, l.port, l.course].join(' ')), differences.map((d) => d.packet)]""")
+      return [chart.bands.map((b, k) => `${k + 1} ${b.labels.join(' ')}`), chart.lines.map((l) => [numbers(l), ...cellsOf(l)].join(' ')), differences.map((one) => rowWords.packetOf(one.packet))]""")
     drawn = section(clean, r"The map: \d+ bands? of [^\n]*", "What the bands say")
     found = [len(re.findall(rf"^{re.escape(band)}(?: [^\n]*)?$", drawn, re.MULTILINE)) for band in bands]
     tally.note(f"{name}: each of {len(bands)} bands once", found == [1] * len(bands), str(found) + drawn[:300])

@@ -14,20 +14,18 @@ function crcOf(bytes) {
   return crc;
 }
 
-const digits = (bytes) => bytes.map((byte) => byte.toString(16).toUpperCase().padStart(2, '0')).join('');
 const inBytes = (number, count) => [...Array(count).keys()].map((k) => Math.floor(number / 256 ** (count - 1 - k)) % 256);
 
-// What a packet that compare prints asks for; its header has no reply address.
-function commandOf(line) {
-  const [, port, hex] = /^(\d+) ([0-9A-F]+) /.exec(line), bytes = hex.match(/../g).map((pair) => parseInt(pair, 16)), [, , bits, key, initiator, , , extended] = bytes;
-  const number = (from, count) => bytes.slice(from, from + count).reduce((sum, byte) => sum * 256 + byte, 0);
-  return { port: Number(port), kind: bits & BITS.write ? 'write' : bits & BITS.rmw ? 'rmw' : 'read', key, initiator, extended, address: number(8, 4), length: number(12, 3) };
+// What the packet of a difference asks for; its header has no reply address.
+function commandOf({ port, packet: { bytes } }) {
+  const [, , bits, key, initiator, , , extended] = bytes, number = (from, count) => bytes.slice(from, from + count).reduce((sum, byte) => sum * 256 + byte, 0);
+  return { port, kind: bits & BITS.write ? 'write' : bits & BITS.rmw ? 'rmw' : 'read', key, initiator, extended, address: number(8, 4), length: number(12, 3) };
 }
 
 // The packet line of a command to a target; what is written is zeros.
 function lineOf({ port, kind, key, initiator, extended, address, length }, target) {
   const header = [target, 0x01, 0x4c + (BITS[kind] ?? 0), key, initiator, 0, 0, extended, ...inBytes(address, 4), ...inBytes(length, 3)];
-  return `${port} ${digits([...header, crcOf(header)])}${kind === 'read' ? '' : '00'.repeat(length + 1)} EOP`;
+  return `${port} ${rowWords.digits([...header, crcOf(header)])}${kind === 'read' ? '' : '00'.repeat(length + 1)} EOP`;
 }
 
 // The shortest command with its first byte in one range and its last in another, and none if there is none.
@@ -53,26 +51,23 @@ const MOST_TRIED = 64;
 
 // The commands that may be of a difference at a node: first that of compare, then one in each bank.
 function commandsOf(one, own, edges) {
-  const first = commandOf(one.packet), port = picture.portsIn(one.port).find((number) => number < own.ports);
+  const [kind_set, , , extended, ports] = one.sets, first = commandOf(one), port = rowWords.valuesIn(ports, own.ports)[0];
   if (port === undefined) return [];
-  const kinds = one.fields[0] === 'any' ? ['read', 'write', 'rmw'] : one.fields[0].split(','), is_of = picture.bytesOf(one.fields[3]);
+  const kinds = rowWords.kindsIn(kind_set);
   const begun = { ...first, port: first.port < own.ports ? first.port : port };
-  const banks = own.banks.filter(({ number }) => is_of(number));
+  const banks = own.banks.filter(({ number }) => rowWords.isIn(extended, number));
   const more = banks.flatMap(({ number, ends }) => kinds.flatMap((kind) => placesIn(one, ends, kind, edges).map((place_) => ({ ...begun, kind, extended: number, ...place_ }))));
   return [begun, ...more].slice(0, MOST_TRIED);
 }
 
-// Whether what decide prints is of a course: the rule and the verdict are of one of its steps.
-function isOf(printed, course) {
-  const found = /^\d+ (rule \d+|no rule) verdict (\d+)/.exec(printed ?? '');
-  return found !== null && picture.steps(course).some(({ rule, verdict }) => rule === found[1] && verdict === found[2]);
-}
+// Whether a decision is of these steps: the rule and the verdict are of one of them.
+const isOf = (decision, steps) => decision?.decider === 'table' && steps.some(({ line, verdict }) => line === decision.line && verdict === decision.verdict);
 
-// What decide prints of packet lines by both tables, a line for each.
+// What decide says of packet lines by both tables, a decision for each.
 async function decided(lines) {
   const given = [['packets', encoder.encode(lines.map((line) => `${line}\n`).join(''))]];
   const [old, own] = [await perform(['decide', 'packets', 'old.policy', ...place()], given), await perform(['decide', 'packets', 'new.policy', ...place()], given)];
-  return [old, own].map(({ text }) => blocksOf(text).map(([first]) => first));
+  return [old, own].map(({ rows }) => rows.decisions ?? []);
 }
 
 // For how many differences a packet is looked for, and for how many at once. The others keep that of compare.
@@ -93,15 +88,12 @@ async function findSome(differences, own, edges, stale) {
     const lines = open.map(({ commands }) => lineOf(commands[round], own.address)), [were, are] = await decided(lines);
     if (stale()) return;
     open.forEach(({ one }, k) => {
-      if (isOf(were[k], one.old) && isOf(are[k], one.new)) one.own = lines[k] + afterOf(one);
-      else if (round === 0) one.none = (are[k] ?? 'it is no packet there').replace(/^\d+ /, '');
+      if (isOf(were[k], one.old) && isOf(are[k], one.new)) one.own = { line: lines[k], times: one.times, is_asked: true };
+      else if (round === 0) one.none = are[k] ? rowWords.decisionOf(are[k])[0] : 'it is no packet there';
     });
     open = open.filter(({ one, commands }) => !one.own && round + 1 < commands.length);
   }
 }
-
-// What stands after the packet of a difference: how often it must come. That no table is asked is of another node.
-const afterOf = (one) => one.packet.replace(/^\d+ [0-9A-F]+ E[OE]P/, '').replace(' unasked', '');
 
 // The packet of a difference, and what is said of it; none if no packet of it comes to the tables of the node.
 const packetOf = (one) => (is_node() ? one.own ?? null : one.packet);

@@ -16,10 +16,9 @@ const counted = (count, one, more) => `${count.toLocaleString('en')} ${count ===
 const calls = new Map();
 let worker = null, number = 0, bytes = null;
 
-// The module: it stands in the page as base64 of its gzip.
+// The module: it stands in the page as digits of its gzip.
 async function moduleBytes() {
-  const packed = Uint8Array.from(atob($('module').textContent), (c) => c.charCodeAt(0));
-  const stream = new Blob([packed]).stream().pipeThrough(new DecompressionStream('gzip'));
+  const stream = new Blob([bytesOf85($('module').textContent)]).stream().pipeThrough(new DecompressionStream('gzip'));
   return new Uint8Array(await new Response(stream).arrayBuffer());
 }
 
@@ -74,11 +73,12 @@ function showWork() {
 }
 setInterval(showWork, 500);
 
-// What words come to over the files of the page, with those of `more` in their place; what they write is given, and not kept.
+// What words come to over the files of the page, with those of `more` in their place; what they write is given, and not kept. The rows
+// are values; the text is what a terminal shows.
 async function perform(words, more = []) {
   const given = new Map([...files, ...more]);
   const done = await ask({ words, files: [...given] }, words[0] ?? 'judge');
-  return { ...done, text: decoder.decode(done.out) };
+  return { ...done, text: decoder.decode(done.out), rows: rowsOf(done.rows) };
 }
 
 const doLine = commandLines(files, perform);
