@@ -227,7 +227,8 @@ impl Bank {
         requires { judged.now.port < length self.now.counts }
         ensures inside { lies_inside self.now.first (length self.now.bytes) (command_of judged.now.packet) ≡ true
             → result ≡ has_room self.now judged.now.port }
-        ensures outside { lies_inside self.now.first (length self.now.bytes) (command_of judged.now.packet) ≡ false
+        ensures outside { lies_inside self.now.first (length self.now.bytes)
+            (command_of judged.now.packet) ≡ false
             → result ≡ false }
     {
         self.has_room(judged.port()) && judged.command().lies_inside(self.first, self.bytes.len())

@@ -74,7 +74,7 @@ impl Pages {
         }
     }
 
-    /// The bytes from an offset to the end of their page.
+    /// The bytes from an offset, counted from the first byte, to the end of their page.
     fn from(&self, offset: usize) -> &[u8]
         requires { offset < length self.now }
         ensures { result.now ≡ take (PAGE - offset % PAGE) (drop offset self.now) }
@@ -235,7 +235,7 @@ fn put_bytes(pages: &mut Vec<Vec<u8>>, offset: usize, bytes: &[u8])
     }
 }
 
-/// Puts a byte at an offset.
+/// Puts a byte at an offset, counted in bytes from the first.
 fn put_byte(pages: &mut Vec<Vec<u8>>, offset: usize, byte: u8)
     requires pages { ArePages (map vec_items pages.old.items) }
     requires inside { offset < length (concat (map vec_items pages.old.items)) }

@@ -15,7 +15,7 @@ use basm_lex::{NumberFault, distance, is_name};
 ///
 /// - `BadOperand`: the word is no name and no distance.
 /// - `BadLabel`: the name is unknown.
-/// - `Reach`: the distance is out of range.
+/// - `Reach`: the digits of the distance do not fit 32 bits.
 pub fn read_target(word: &str, names: &Names, slot: u32) -> Result<i64, AsmCode>
     ensures writes { IfOk result (WritesTarget (slot_named names.now) slot word.now) }
     ensures exact { (offset : ℤ) → WritesTarget (slot_named names.now) slot word.now offset

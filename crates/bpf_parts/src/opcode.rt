@@ -31,7 +31,7 @@ pub const K: u8 = 0x00;
 /// The source of arithmetic and jumps is the source register (section 4).
 pub const X: u8 = 0x08;
 
-// The codes of arithmetic that are an instruction of their own. All others are those of `AluOp`.
+// The codes of arithmetic that have an instruction of their own. All others are those of `AluOp`.
 
 /// The code of a negation (section 4.1).
 pub const NEG: u8 = 8;

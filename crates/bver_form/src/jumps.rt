@@ -41,8 +41,8 @@ fn is_loop_back(image: &Image, slot: u16, head: u16) -> bool
         .any(|declared| declared.back == slot && declared.head == head)
 }
 
-/// Tests that a jump by this distance leads to a slot at which an instruction begins. It must not go backward, except
-/// at the back of a declared loop to its head.
+/// Tests that a jump by this distance, in slots from the next one, leads to a slot at which an instruction begins. It
+/// must not go backward, except at the back of a declared loop to its head.
 pub(crate) fn check_landing(image: &Image, slot: u16, distance: i32) -> Result<(), Refusal>
     ensures jump { OnOk result (IsJump image.now slot distance) }
     ensures fault { ReportsFault result (jump_fault image.now slot (Some distance)) }

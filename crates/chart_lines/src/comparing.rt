@@ -68,8 +68,10 @@ fn add_line(
     from: usize,
 ) -> Result<(), AllocError>
     requires place { place < length comparison.chart.now }
-    requires comparison { IsComparison comparison.asked.now comparison.old.now.rules comparison.new.now.rules comparison.chart.now }
-    requires reported { HasReported (PrintsLine ports.now comparison.old.now comparison.new.now comparison.chart.now) place from rows.old.items }
+    requires comparison { IsComparison comparison.asked.now comparison.old.now.rules
+        comparison.new.now.rules comparison.chart.now }
+    requires reported { HasReported (PrintsLine ports.now comparison.old.now comparison.new.now
+        comparison.chart.now) place from rows.old.items }
     ensures { OnOk result (PrintsLine ports.now comparison.entry.old.now comparison.entry.new.now
         comparison.entry.chart.now place rows.old.items rows.new.items) }
 {
@@ -89,7 +91,8 @@ fn add_chart(
     ports: &[u8],
     comparison: Comparison<'_>,
 ) -> Result<(), AllocError>
-    requires { IsComparison comparison.asked.now comparison.old.now.rules comparison.new.now.rules comparison.chart.now }
+    requires { IsComparison comparison.asked.now comparison.old.now.rules comparison.new.now.rules
+        comparison.chart.now }
     ensures { OnOk result (PrintsFirst (PrintsLine ports.now
         comparison.entry.old.now comparison.entry.new.now
         comparison.entry.chart.now) (length comparison.entry.chart.now)
@@ -112,7 +115,8 @@ fn add_lines(
     new: &AskedRules,
     preferred: &[PointRegion],
 ) -> Result<(), AllocError>
-    ensures { OnOk result (PrintsLines asked.now ports.now old.now new.now rows.old.items rows.new.items) }
+    ensures { OnOk result
+        (PrintsLines asked.now ports.now old.now new.now rows.old.items rows.new.items) }
 {
     let lines = comparison_of(alloc, asked, old.rules(), new.rules())?;
     let chart = joined(alloc, asked, old.rules(), new.rules(), lines)?;

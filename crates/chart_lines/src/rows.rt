@@ -71,7 +71,8 @@ impl RowContent {
         change: RowChange,
     ) -> RowContent
         requires { HasCommand change.point }
-        ensures { result ≡ reported line.now.region line.now.rest decision_path.items new.items (Some change) }
+        ensures { result ≡
+            reported line.now.region line.now.rest decision_path.items new.items (Some change) }
     {
         RowContent {
             region: line.region,

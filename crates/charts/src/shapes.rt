@@ -15,7 +15,8 @@ use regions::{ByteSet, Kinds, PointRegion, Stretch};
 
 /// The kinds that agree with a rule's.
 fn kinds_of(wanted: RuleKind) -> Kinds
-    ensures { (kind : Kind) → is_used kind ≡ true → is_one_of result kind ≡ agrees_with_kind wanted kind }
+    ensures { (kind : Kind) → is_used kind ≡ true → is_one_of result kind ≡
+        agrees_with_kind wanted kind }
 {
     let any = wanted == RuleKind::Any;
     Kinds {

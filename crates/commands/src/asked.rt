@@ -1,4 +1,4 @@
-//! What the words of a command line ask for, with help.
+//! What the words of a command line ask for: a job, a talk, or a text, as that of `help`.
 
 ghost use Rattle.std.specs.Prelude.{◌≡◌, ◌&&◌, IfErr, IfOk, is_some};
 ghost use Rattle.clap.specs.Walk.{texts};

@@ -139,7 +139,8 @@ fn print_text<D: Desk + Drop>(
 
 /// Prints the line of a fault.
 fn fail<D: Desk + Drop>(alloc: Global, desk: D, fault: &Fault<'_>) -> Result<Left<D>, AllocError>
-    ensures { IfOk result (λ left. Prints D.words (job_fault_line fault.now) Failed desk left.end left.desk) }
+    ensures { IfOk result (λ left.
+        Prints D.words (job_fault_line fault.now) Failed desk left.end left.desk) }
 {
     let mut out = desk.output(alloc)?;
     let written = writeln!(out, "{fault}");
@@ -168,7 +169,8 @@ fn end_job<D: Desk + Drop>(
     done: Result<JobEnd<'_>, WriteFault>,
     closed: io::Result<()>,
 ) -> Result<Left<D>, AllocError>
-    ensures { IfOk result (λ left. EndsJob D.words done.entry closed files.entry.desk left.end left.desk) }
+    ensures { IfOk result (λ left.
+        EndsJob D.words done.entry closed files.entry.desk left.end left.desk) }
 {
     match (done, closed) {
         (Ok(end), Ok(())) => {

@@ -36,7 +36,8 @@ pub struct UnreportedTexts {
 impl UnreportedTexts {
     /// What is printed of that many texts, if there are any.
     pub fn of(count: u64) -> Option<UnreportedTexts>
-        ensures { MatchOption result (count ≡ 0) (λ unreported. (0 < count) × (unreported.count ≡ count)) }
+        ensures { MatchOption result (count ≡ 0) (λ unreported.
+            (0 < count) × (unreported.count ≡ count)) }
     {
         if count == 0 {
             None

@@ -19,7 +19,8 @@ const STANDARD_INPUT: &str = "-";
 /// Takes the next line, the one of that number, and sends what it is in words. Returns whether there was one.
 fn show_next<'a, T: Talk>(alloc: Global, talk: &mut T, number: usize) -> Result<bool, JobStop<'a>>
     ensures shown { IfOk result (λ was_given. ShowsOne T.received T.sent was_given talk.old talk.new) }
-    ensures stops { IfErr result (IsUnreported T.received T.sent T.unsent T.missed number talk.old talk.new) }
+    ensures stops { IfErr result
+        (IsUnreported T.received T.sent T.unsent T.missed number talk.old talk.new) }
 {
     let mut line = String::new(alloc);
     let Ok(is_given) = talk.next(&mut line) else {

@@ -71,7 +71,8 @@ impl CheckedFrames {
         requires { MAX_PACKET ≤ length room.old }
         ensures reported { result
             ≡ received_numbers (take_whole self.old.reading bytes.now).count (take_whole self.old.reading bytes.now).received }
-        ensures room { room.new ≡ put_front room.old (packet_in (take_whole self.old.reading bytes.now).received) }
+        ensures room { room.new ≡
+            put_front room.old (packet_in (take_whole self.old.reading bytes.now).received) }
         ensures read { self.new ≡ checked (take_whole self.old.reading bytes.now).next }
     {
         let received = self.frames.take(bytes, room);

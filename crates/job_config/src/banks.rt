@@ -83,8 +83,9 @@ pub(crate) fn is_count(count: usize) -> bool
 ///
 /// # Errors
 ///
-/// `NoList` if what the file has there is no list of tables, and `BadCount` if there are not 1 to 8. Else the first
-/// fault of a table: `NoTable`, or `BadNumber` for its base, its size or its journal. `Memory` if memory was refused.
+/// `NoList` if what the file has there is no list, and `BadCount` if the list does not have 1 to 8 items. Else the
+/// first fault of an item: `NoTable`, or `BadNumber` for its base, its size or its journal. `Memory` if memory was
+/// refused.
 #[tactic(auto, using(crate::proofs::Each::count_view), unfolding(crate::specs::Configured::banks_at))]
 pub fn banks_of(alloc: Global, table: &Table) -> Result<Vec<BankConfig>, ConfigFault>
     ensures ok { IfOk result (λ banks. banks_at (table_view table.now) ≡ Ok banks.items) }

@@ -37,7 +37,8 @@ fn add_path(
 
 /// The paths of the files that the banks of a list begin with, in its order; the node's file has that name.
 fn paths_in(alloc: Global, file: &str, list: &[Value]) -> Result<Vec<String>, AllocError>
-    ensures { IfOk result (λ paths. ArePathsIn file.now (items_view list.now) (map string_bytes paths.items)) }
+    ensures { IfOk result (λ paths.
+        ArePathsIn file.now (items_view list.now) (map string_bytes paths.items)) }
 {
     let mut paths = Vec::new(alloc);
     for index in 0..list.len() {
@@ -53,7 +54,8 @@ fn paths_in(alloc: Global, file: &str, list: &[Value]) -> Result<Vec<String>, Al
 ///
 /// If memory was refused.
 pub fn contents_paths(alloc: Global, file: &str, text: &str) -> Result<Vec<String>, AllocError>
-    ensures { IfOk result (λ paths. AreContentsPaths file.now text.now (map string_bytes paths.items)) }
+    ensures { IfOk result (λ paths.
+        AreContentsPaths file.now text.now (map string_bytes paths.items)) }
 {
     let table = match toml::table_from_str(alloc, text) {
         Ok(table) => table,

@@ -26,7 +26,7 @@ pub fn held<'a>(table: &'a Table, key: &str) -> Option<&'a Value>
 ///
 /// # Errors
 ///
-/// `NoList` if the key of the kind holds no list of tables.
+/// `NoList` if the key of the kind holds something else than a list.
 pub fn list_at(table: &Table, kind: TableKind) -> Result<Option<&[Value]>, ConfigFault>
     ensures ok { IfOk result (λ list.
         list_at (table_view table.now) kind ≡ Ok (option_map (λ l. items_view l.now) list)) }

@@ -73,8 +73,9 @@ fn other_port(own: &PortRule, port: u8) -> Option<u8> {
     if wanted == port { None } else { Some(wanted) }
 }
 
-/// A line for each rule before the one that decides, from the first on: its line, and why it does not match. These are
-/// the reasons of the rules that are asked at the port, in order; the rule after them decides.
+/// A line for each rule before the one that decides, from the first on: its line, and why it does not match. If a rule
+/// is for another port, its line says so. `passed` has the reasons of the rules that are asked at the port, in order;
+/// the rule after them decides.
 ///
 /// # Errors
 ///

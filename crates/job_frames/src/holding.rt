@@ -104,9 +104,11 @@ fn hold_on<'a, F: Files, L: Link>(
     files: &mut F,
     link: &mut L,
 ) -> Result<bool, JobStop<'a>>
-    ensures held { IfOk result (HoldsFrames F.reads L.received L.sent L.reported L.unread L.unsent L.unreported
+    ensures held { IfOk result
+        (HoldsFrames F.reads L.received L.sent L.reported L.unread L.unsent L.unreported
         words.now files.old files.new link.old link.new) }
-    ensures stops { IfErr result (IsUnheld F.reads L.received L.sent L.reported L.unread L.unsent L.unreported
+    ensures stops { IfErr result
+        (IsUnheld F.reads L.received L.sent L.reported L.unread L.unsent L.unreported
         words.now files.old files.new link.old link.new) }
 {
     let (mut reader, mut answering) = ends_of_link(alloc, words, files)?;
@@ -161,7 +163,8 @@ pub fn live_frames<F: Files, L: Link>(
     link: &mut L,
     place: &mut Option<String>,
 ) -> Result<ExitStatus, WriteFault>
-    ensures lives { IfOk result (LivesFrames F.reads L.received L.sent L.reported L.unread L.unsent L.unreported
+    ensures lives { IfOk result
+        (LivesFrames F.reads L.received L.sent L.reported L.unread L.unsent L.unreported
         words.now L.lost files.old files.new link.old link.new) }
     ensures unsent { IfErr result (IsFramesUnsent F.reads L.received L.sent L.reported L.unread L.unsent
         L.unreported words.now files.old files.new link.old link.new) }

@@ -83,7 +83,8 @@ fn fault_words(alloc: Global, number: usize) -> io::Result<Vec<u8>>
 /// condition is room for the longest lines.
 #[tactic(auto, using(crate::proofs::Taken::text_taken))]
 fn put_taken(text: &mut Vec<u8>, taken: LineResult, node: &LiveNode, at_once: bool)
-    requires { vec_len text.old + (MOST_OF_SCRUB + MOST_OF_PACKET + text_room_of at_once) ≤ vec_capacity text.old }
+    requires { vec_len text.old + (MOST_OF_SCRUB + MOST_OF_PACKET + text_room_of at_once) ≤
+        vec_capacity text.old }
     ensures { text.new.items ≡ text.old.items ++ taken_text at_once taken node.now.node }
 {
     put_found(text, taken.answer.found);

@@ -69,7 +69,8 @@ fn hold<'a, T: Talk>(
     at_once: bool,
     talk: &mut T,
 ) -> Result<bool, JobStop<'a>>
-    ensures held { IfOk result (IsWholeTalk T.received T.sent at_once node.old node.new talk.old talk.new) }
+    ensures held { IfOk result
+        (IsWholeTalk T.received T.sent at_once node.old node.new talk.old talk.new) }
     ensures stops { IfErr result (IsBrokenOff T.received T.sent T.unsent T.missed at_once
         node.old node.new talk.old talk.new) }
 {

@@ -46,7 +46,8 @@ fn address_of(word: &str) -> Result<u32, BadLine>
 
 /// The bytes that pairs of hexadecimal digits write.
 fn bytes_of(alloc: Global, word: &str) -> Result<Vec<u8>, BadLine>
-    ensures { MatchResult result (λ bytes. WritesByteList word.now bytes.items) (AreNoBytes word.now) }
+    ensures { MatchResult result (λ bytes.
+        WritesByteList word.now bytes.items) (AreNoBytes word.now) }
 {
     Ok(hex::decode(alloc, word).map_err(LineFault::from)?)
 }

@@ -42,7 +42,8 @@ fn ends_row(count: usize, place: usize) -> bool
 
 /// Adds the byte at a place, of an array with this count of bytes, as `0xHH,`.
 fn add_byte(text: &mut String, count: usize, place: usize, byte: u8) -> Result<(), AllocError>
-    ensures { OnOk result (string_bytes text.new ≡ string_bytes text.old ++ byte_text count place byte) }
+    ensures { OnOk result
+        (string_bytes text.new ≡ string_bytes text.old ++ byte_text count place byte) }
 {
     let digits = TwoDigits(byte);
     let following = byte_separator(ends_row(count, place));
@@ -240,7 +241,8 @@ fn add_publish_arrays(text: &mut String, publishes: &[(u8, Accepted)]) -> Result
 
 /// Adds a row for an image of this many bytes, which is published in this slot.
 fn add_slot_row(text: &mut String, place: usize, slot: u8, count: usize) -> Result<(), AllocError>
-    ensures { OnOk result (string_bytes text.new ≡ string_bytes text.old ++ slot_row place slot count) }
+    ensures { OnOk result
+        (string_bytes text.new ≡ string_bytes text.old ++ slot_row place slot count) }
 {
     write!(text, "  {{{slot}, node_publish_{place}, {count}}},\n")
 }

@@ -80,7 +80,8 @@ fn placed_command(command: &Command, windows: &Windows) -> Result<Place, Check>
 /// The first line of the order of checks that holds before that.
 #[tactic(auto, using(crate::proofs::Meeting::discarded, crate::proofs::Meeting::stopped, crate::proofs::Meeting::going_on))]
 pub fn placed(packet: &Packet, windows: &Windows) -> Result<Place, Check>
-    ensures { MatchResult result (PassesHeader windows.now packet.now) (Meets windows.now packet.now) }
+    ensures { MatchResult result (PassesHeader windows.now packet.now)
+        (Meets windows.now packet.now) }
 {
     match Command::view(packet) {
         Ok(command) => placed_command(&command, windows),

@@ -447,7 +447,8 @@ pub fn look_at_window(
     search_slot(alloc, bench, maker, findings, 3, codes.as_slice(), area)
 }
 
-/// The rows of the program: a command for each verdict that was found, whole and with an error end.
+/// The rows of the program: for each verdict that was found, a command that is whole. If the verdict is not 0, the
+/// command with an error end comes after it.
 ///
 /// # Errors
 ///

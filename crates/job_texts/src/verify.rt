@@ -49,7 +49,7 @@ pub fn print_accepted<W: Write>(out: &mut W, weight: u64, budget: u32) -> io::Re
 /// # Errors
 ///
 /// Faults are found in this order: that of the file (`CannotRead`), that of its image (`BadImage`), and that of the
-/// program (`Refused`).
+/// program (`Refused`). Last comes the error of `out`, if it does not take all of the line.
 pub fn verify_file<'a, F: Files, W: Write>(
     alloc: Global,
     image: &'a str,

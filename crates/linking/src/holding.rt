@@ -68,7 +68,8 @@ fn answer_next<N: Target, L: Link>(
     ensures read { IfOk result (λ count. reader.new ≡ reading_after reader.old (take count bytes.now)) }
     ensures answered { IfOk result (λ count. AnswersAll N.served L.sent L.reported
         (received_in reader.old (take count bytes.now)) target.old target.new link.old link.new) }
-    ensures err { IfErr result (λ why. StopsNext N.served N.unserved L.sent L.reported L.unsent L.unreported
+    ensures err { IfErr result (λ why.
+        StopsNext N.served N.unserved L.sent L.reported L.unsent L.unreported
         why bytes.now reader.old reader.new target.old target.new link.old link.new) }
 {
     match reader.take(bytes) {

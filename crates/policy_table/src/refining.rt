@@ -54,7 +54,7 @@ fn begins_comment(word: &str) -> bool
     word.starts_with('#') || word.starts_with('/') || word.starts_with(';')
 }
 
-/// The fault to report for words that are no statement for this fault.
+/// The fault to report for words that are no statement because of this fault.
 pub fn refined(text: &str, fault: StatementFault) -> StatementFault
     ensures { result ≡ refined (words_of text.now) fault }
 {

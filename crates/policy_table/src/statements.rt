@@ -156,7 +156,8 @@ fn rule_parts<'a>(ranges: &NamedRanges<'a>, text: &'a str) -> Option<RuleParts<'
 
 /// The port that comes after a verdict: `port P`, or nothing.
 fn port_in(text: &str) -> Option<Option<u8>>
-    ensures { MatchOption result (IsBadPortWord (words_of text.now)) (IsPortSuffix (words_of text.now)) }
+    ensures { MatchOption result (IsBadPortWord (words_of text.now))
+        (IsPortSuffix (words_of text.now)) }
 {
     let Some((word, rest)) = first_word(text) else {
         return Some(None);

@@ -271,7 +271,7 @@ has_counting (Some guard) = agrees guard.counting
 abbrev pub with_counting : Guard → Counting → Guard
 with_counting guard counting = record guard { counting = counting }
 
--- what is kept, with a scrub before each packet of that many
+-- what is kept, with a scrub before each `each`-th packet
 abbrev pub scrubbing_each : Guard → (each : ℕ) → Guard
 scrubbing_each guard each = with_counting guard (counting_of each each)
 
@@ -279,7 +279,7 @@ scrubbing_each guard each = with_counting guard (counting_of each each)
 abbrev pub counting_on : Watched → Counting → Watched
 counting_on g counting = beside (with_counting g.guard counting) g.node
 
--- from now on there is a scrub before each packet of that many
+-- from now on there is a scrub before each `each`-th packet
 pub record SetsEach (each : ℕ) (before after : GuardedValue) : Type 0 where
   pub old : Guard
   pub has : HasGuard before.guard before.node old

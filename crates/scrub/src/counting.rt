@@ -8,7 +8,7 @@ ghost use Rattle.scrub.specs.Counting.{agrees, complement_of_count, counted, cou
 /// due before each packet.
 #[derive(Clone, Copy, Debug, PartialEq, Eq)]
 pub struct Counting {
-    /// Before each packet of that many the program that judges it is scrubbed. If it is 0, none is.
+    /// Before each `each`-th packet the program that judges it is scrubbed: 1 is each packet. If it is 0, none is.
     pub each: u32,
     /// How many packets are left until then, with that one.
     pub left: u32,

@@ -181,8 +181,8 @@ fn are_open(sums: &[SlotSums; 4]) -> bool
 }
 
 impl Guard {
-    /// What is kept of a node's programs, each of which may judge. Before each packet of that many the program that
-    /// judges it is scrubbed. If the number is 0, none is.
+    /// What is kept of a node's programs, each of which may judge. Before each `each`-th packet the program that judges
+    /// it is scrubbed. If `each` is 0, none is.
     pub fn new(node: &SingleNode, each: u32) -> Guard
         ensures { IsGuardOf node.now each result }
     {
@@ -307,8 +307,8 @@ impl Guard {
         Err(MendFault::Full)
     }
 
-    /// From now on scrubs the program that judges a packet before each packet of that many. If the number is 0, it
-    /// scrubs before none.
+    /// From now on scrubs the program that judges a packet, before each `each`-th packet: 1 is each packet, 2 each
+    /// second one. If `each` is 0, it scrubs before none.
     pub fn scrub_each(&mut self, each: u32)
         ensures { self.new ≡ scrubbing_each self.old each }
     {

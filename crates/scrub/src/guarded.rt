@@ -41,7 +41,7 @@ fn unread() -> ServedDetail
     }
 }
 
-/// A guard of a node's programs that scrubs one before each packet of that many, or `None` without a number.
+/// A guard of a node's programs that scrubs one before each `each`-th packet, or `None` without a number.
 fn guard_of(node: &SingleNode, each: Option<u32>) -> Option<Guard>
     ensures { BeginsGuard each node.now result }
 {
@@ -140,8 +140,8 @@ fn answer_plain(
 }
 
 impl GuardedNode {
-    /// A node, with what is kept of its programs, each of which may judge. Before each packet of that many the program
-    /// that judges it is scrubbed. If the number is 0, none is. Without a number nothing is kept.
+    /// A node, with what is kept of its programs, each of which may judge. Before each `each`-th packet the program
+    /// that judges it is scrubbed. If `each` is 0, none is. Without a number nothing is kept.
     pub fn new(node: SingleNode, each: Option<u32>) -> GuardedNode
         ensures { IsGuarded each node result }
     {
@@ -200,8 +200,8 @@ impl GuardedNode {
         reported
     }
 
-    /// From now on scrubs the program that judges a packet before each packet of that many. If the number is 0, it
-    /// scrubs before none. If the node has no guard, the sums are taken now.
+    /// From now on scrubs the program that judges a packet, before each `each`-th packet: 1 is each packet, 2 each
+    /// second one. If `each` is 0, it scrubs before none. If the node has no guard, it takes the sums now.
     pub fn scrub_each(&mut self, each: u32)
         ensures { SetsEach each self.old self.new }
     {

@@ -312,7 +312,7 @@ pub extern "C" fn sandbar_scrub(
     code
 }
 
-/// From now on scrubs the program that judges a packet before each packet of that many. If the number is 0, as in a
+/// From now on scrubs the program that judges a packet, before each `each`-th packet. If `each` is 0, as in a
 /// node that was opened, it scrubs before none.
 #[unsafe(no_mangle)]
 pub extern "C" fn sandbar_scrub_each(alloc: Global, handle: &mut Handle, each: u32) -> u32
