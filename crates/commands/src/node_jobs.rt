@@ -53,7 +53,8 @@ pub fn node_inputs(node: &str) -> Inputs<'_>
 impl<'a> JobEnd<'a> {
     /// How a job ends if the file of its node has this fault.
     pub fn refused(fault: Fault<'a>) -> JobEnd<'a>
-        ensures { result ≡ record { status = Failed; fault = Some fault.entry; full = None; lost = 0; rows = Nothing } }
+        ensures { result ≡ record { status = Failed; fault = Some fault.entry; full = None; lost =
+            0; rows = Nothing } }
     {
         JobEnd {
             status: ExitStatus::Failed,

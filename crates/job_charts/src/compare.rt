@@ -298,7 +298,8 @@ fn rows_of_tables(
     old: &Policy,
     new: &Policy,
 ) -> Result<Vec<Difference>, AllocError>
-    ensures { IfOk result (λ found. AreTableDifferences asked.now words.now.asking.port words.now.windows old.now new.now found.items) }
+    ensures { IfOk result (λ found. AreTableDifferences asked.now words.now.asking.port
+        words.now.windows old.now new.now found.items) }
 {
     let places = places(alloc, &words.windows)?;
     let rows = difference_rows(alloc, asked, words.asking.port, old, new, places.as_slice())?;
@@ -314,7 +315,8 @@ fn print_differences<'a, W: Write>(
     new: &Policy,
     out: &mut W,
 ) -> Result<Vec<Difference>, JobStop<'a>>
-    ensures done { IfOk result (λ found. PrintsDifferences asked.now words.now.asking.port words.now.windows
+    ensures done { IfOk result (λ found.
+        PrintsDifferences asked.now words.now.asking.port words.now.windows
         old.now new.now (W.contents out.old) (W.contents out.new) found.items) }
     ensures stops { IfErr result (StopsBy (λ fault. fault ≡ NoMemory)) }
     ensures quiet { IfErr result (StopsBy (λ _. W.contents out.new ≡ W.contents out.old)) }

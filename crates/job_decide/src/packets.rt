@@ -46,7 +46,8 @@ fn answered_text(
 
 /// Adds the line of a packet that is discarded: `PORT discard C`.
 fn add_discard(text: &mut String, port: u8, discard: Discard) -> Result<(), AllocError>
-    ensures { OnOk result (string_bytes text.new ≡ string_bytes text.old ++ discard_line port discard) }
+    ensures { OnOk result
+        (string_bytes text.new ≡ string_bytes text.old ++ discard_line port discard) }
 {
     let code = discard.code();
     writeln!(text, "{port} discard {code}")
@@ -202,7 +203,8 @@ fn decide_admitted(
     counts: &mut Counts,
     command: &Command,
 ) -> Result<PacketDecision, AllocError>
-    ensures { IfOk result (DecidesByPolicy at.entry.port at.entry.policy.now command.now counts.old counts.new) }
+    ensures { IfOk result
+        (DecidesByPolicy at.entry.port at.entry.policy.now command.now counts.old counts.new) }
 {
     let (front, tail) = (command.front(), command.tail());
     let PortPolicy { policy, port } = at;

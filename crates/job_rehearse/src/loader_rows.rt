@@ -60,7 +60,8 @@ fn add_rows(
     lead: &str,
     rows: &[LoaderRow],
 ) -> Result<(), AllocError>
-    ensures { OnOk result (string_bytes text.new ≡ with_rows (string_bytes text.old) lead.now rows.now) }
+    ensures { OnOk result
+        (string_bytes text.new ≡ with_rows (string_bytes text.old) lead.now rows.now) }
 {
     for row in rows {
         add_row(text, alloc, lead, *row)?;

@@ -52,7 +52,8 @@ fn port_answers(
 ) -> Result<Vec<Passing>, AllocError>
     requires ports { node.ports ≤ 32 }
     requires short { length image.now ≤ STAGING_SIZE }
-    ensures { IfOk result (λ answers. AreOpen judge.now image.now node asker node.ports answers.items) }
+    ensures { IfOk result (λ answers.
+        AreOpen judge.now image.now node asker node.ports answers.items) }
 {
     let mut answers = Vec::new(alloc);
     for port in 0..node.ports {
@@ -92,7 +93,8 @@ fn add_end(
     first: u8,
     port: u8,
 ) -> Result<(), AllocError>
-    ensures { OnOk result (rows.new.items ≡ with_end rows.old.items answers.now kind asker first port) }
+    ensures { OnOk result
+        (rows.new.items ≡ with_end rows.old.items answers.now kind asker first port) }
 {
     if ends_run(answers, kind, port) {
         rows.push(LoaderRow {
@@ -189,7 +191,8 @@ fn add_asker_at(
     requires ports { node.ports ≤ 32 }
     requires short { length image.now ≤ STAGING_SIZE }
     requires place { place < length askers.now }
-    ensures { OnOk result (AddsPlace judge.now image.now node askers.now place rows.old.items rows.new.items) }
+    ensures { OnOk result
+        (AddsPlace judge.now image.now node askers.now place rows.old.items rows.new.items) }
 {
     let asker = asker_at(askers, place);
     add_asker(rows, alloc, judge, image, node, asker)

@@ -397,7 +397,8 @@ fn rehearse_named<'a, F: Files, W: Write>(
     files: &mut F,
     out: &mut W,
 ) -> Result<RehearseEnd, JobStop<'a>>
-    ensures done { IfOk result (λ end. (end.loaders ≡ None) × DoesOne F.reads words.now named files.old files.new
+    ensures done { IfOk result (λ end.
+        (end.loaders ≡ None) × DoesOne F.reads words.now named files.old files.new
         (W.contents out.old) (W.contents out.new) end.status) }
     ensures stops { IfErr result (StopsBy (IsUndone F.reads words.now named files.old files.new
         (W.contents out.old) (W.contents out.new))) }

@@ -46,7 +46,8 @@ fn add_step(bytes: &mut Vec<u8>, step: &AskedRule) -> Result<(), AllocError>
 
 /// Adds each of these steps.
 fn add_each_step(bytes: &mut Vec<u8>, steps: &[AskedRule]) -> Result<(), AllocError>
-    ensures { OnOk result (AddsEach step_code (map drawn_step steps.now) bytes.old.items bytes.new.items) }
+    ensures { OnOk result
+        (AddsEach step_code (map drawn_step steps.now) bytes.old.items bytes.new.items) }
 {
     for step in steps {
         add_step(bytes, step)?;
@@ -56,7 +57,8 @@ fn add_each_step(bytes: &mut Vec<u8>, steps: &[AskedRule]) -> Result<(), AllocEr
 
 /// Adds the steps of a table.
 pub(crate) fn add_steps(bytes: &mut Vec<u8>, steps: &[AskedRule]) -> Result<(), AllocError>
-    ensures { OnOk result (Adds steps_code (map drawn_step steps.now) bytes.old.items bytes.new.items) }
+    ensures { OnOk result
+        (Adds steps_code (map drawn_step steps.now) bytes.old.items bytes.new.items) }
 {
     add_count(bytes, steps.len())?;
     add_each_step(bytes, steps)
@@ -73,7 +75,8 @@ fn add_kinds(bytes: &mut Vec<u8>, kinds: Kinds) -> Result<(), AllocError>
 
 /// Adds a stretch.
 fn add_stretch(bytes: &mut Vec<u8>, stretch: Stretch) -> Result<(), AllocError>
-    ensures { OnOk result (Adds stretch_code (drawn_stretch stretch) bytes.old.items bytes.new.items) }
+    ensures { OnOk result
+        (Adds stretch_code (drawn_stretch stretch) bytes.old.items bytes.new.items) }
 {
     add_long(bytes, stretch.start)?;
     add_long(bytes, stretch.end)
@@ -81,7 +84,8 @@ fn add_stretch(bytes: &mut Vec<u8>, stretch: Stretch) -> Result<(), AllocError>
 
 /// Adds the commands of a region.
 fn add_region(bytes: &mut Vec<u8>, region: &PointRegion) -> Result<(), AllocError>
-    ensures { OnOk result (Adds region_code (drawn_region region.now) bytes.old.items bytes.new.items) }
+    ensures { OnOk result
+        (Adds region_code (drawn_region region.now) bytes.old.items bytes.new.items) }
 {
     add_kinds(bytes, region.kinds)?;
     add_set(bytes, &region.keys)?;
@@ -122,7 +126,8 @@ fn add_lines(bytes: &mut Vec<u8>, lines: &[usize]) -> Result<(), AllocError>
 
 /// Adds the reason for which a rule never matches.
 fn add_reason(bytes: &mut Vec<u8>, reason: &Reason) -> Result<(), AllocError>
-    ensures { OnOk result (Adds reason_code (drawn_reason reason.now) bytes.old.items bytes.new.items) }
+    ensures { OnOk result
+        (Adds reason_code (drawn_reason reason.now) bytes.old.items bytes.new.items) }
 {
     match reason {
         Reason::NoTicket => {
@@ -150,7 +155,8 @@ fn add_note(bytes: &mut Vec<u8>, note: &Note) -> Result<(), AllocError>
 
 /// Adds each of these rows.
 fn add_each_row(bytes: &mut Vec<u8>, rows: &[ChartRow]) -> Result<(), AllocError>
-    ensures { OnOk result (AddsEach row_code (map drawn_row rows.now) bytes.old.items bytes.new.items) }
+    ensures { OnOk result
+        (AddsEach row_code (map drawn_row rows.now) bytes.old.items bytes.new.items) }
 {
     for row in rows {
         add_row(bytes, row)?;
@@ -160,7 +166,8 @@ fn add_each_row(bytes: &mut Vec<u8>, rows: &[ChartRow]) -> Result<(), AllocError
 
 /// Adds rows.
 fn add_rows(bytes: &mut Vec<u8>, rows: &[ChartRow]) -> Result<(), AllocError>
-    ensures { OnOk result (Adds (list_code row_code) (map drawn_row rows.now) bytes.old.items bytes.new.items) }
+    ensures { OnOk result
+        (Adds (list_code row_code) (map drawn_row rows.now) bytes.old.items bytes.new.items) }
 {
     add_count(bytes, rows.len())?;
     add_each_row(bytes, rows)
@@ -168,7 +175,8 @@ fn add_rows(bytes: &mut Vec<u8>, rows: &[ChartRow]) -> Result<(), AllocError>
 
 /// Adds each of these rules.
 fn add_each_note(bytes: &mut Vec<u8>, notes: &[Note]) -> Result<(), AllocError>
-    ensures { OnOk result (AddsEach note_code (map drawn_note notes.now) bytes.old.items bytes.new.items) }
+    ensures { OnOk result
+        (AddsEach note_code (map drawn_note notes.now) bytes.old.items bytes.new.items) }
 {
     for note in notes {
         add_note(bytes, note)?;
@@ -178,7 +186,8 @@ fn add_each_note(bytes: &mut Vec<u8>, notes: &[Note]) -> Result<(), AllocError>
 
 /// Adds rules that never match.
 fn add_notes(bytes: &mut Vec<u8>, notes: &[Note]) -> Result<(), AllocError>
-    ensures { OnOk result (Adds (list_code note_code) (map drawn_note notes.now) bytes.old.items bytes.new.items) }
+    ensures { OnOk result
+        (Adds (list_code note_code) (map drawn_note notes.now) bytes.old.items bytes.new.items) }
 {
     add_count(bytes, notes.len())?;
     add_each_note(bytes, notes)

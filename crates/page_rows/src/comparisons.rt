@@ -48,7 +48,8 @@ fn add_fate(bytes: &mut Vec<u8>, fate: PacketFate) -> Result<(), AllocError>
 
 /// Adds how often a packet must come.
 fn add_repeats(bytes: &mut Vec<u8>, repeats: Repeats) -> Result<(), AllocError>
-    ensures { OnOk result (Adds repeats_code (drawn_repeats repeats) bytes.old.items bytes.new.items) }
+    ensures { OnOk result
+        (Adds repeats_code (drawn_repeats repeats) bytes.old.items bytes.new.items) }
 {
     match repeats {
         Repeats::Times(times) => {
@@ -70,7 +71,8 @@ fn add_packet(bytes: &mut Vec<u8>, own: &RowPacket) -> Result<(), AllocError>
 
 /// Adds a difference.
 fn add_difference(bytes: &mut Vec<u8>, own: &Difference) -> Result<(), AllocError>
-    ensures { OnOk result (Adds difference_code (drawn_difference own.now) bytes.old.items bytes.new.items) }
+    ensures { OnOk result
+        (Adds difference_code (drawn_difference own.now) bytes.old.items bytes.new.items) }
 {
     add_row(bytes, &own.row)?;
     add_steps(bytes, own.row.reported().new_path())?;
@@ -81,7 +83,8 @@ fn add_difference(bytes: &mut Vec<u8>, own: &Difference) -> Result<(), AllocErro
 
 /// Adds each of these differences.
 fn add_each_difference(bytes: &mut Vec<u8>, differences: &[Difference]) -> Result<(), AllocError>
-    ensures { OnOk result (AddsEach difference_code (map drawn_difference differences.now) bytes.old.items bytes.new.items) }
+    ensures { OnOk result (AddsEach difference_code (map drawn_difference differences.now)
+        bytes.old.items bytes.new.items) }
 {
     for own in differences {
         add_difference(bytes, own)?;

@@ -45,7 +45,8 @@ fn add_line(bytes: &mut Vec<u8>, line: Option<usize>) -> Result<(), AllocError>
 
 /// Adds a decision.
 fn add_decision(bytes: &mut Vec<u8>, made: &PacketDecision) -> Result<(), AllocError>
-    ensures { OnOk result (Adds decision_code (drawn_decision made.now) bytes.old.items bytes.new.items) }
+    ensures { OnOk result
+        (Adds decision_code (drawn_decision made.now) bytes.old.items bytes.new.items) }
 {
     add_number(bytes, u32::from(made.port))?;
     add_by(bytes, made.by)?;
@@ -56,7 +57,8 @@ fn add_decision(bytes: &mut Vec<u8>, made: &PacketDecision) -> Result<(), AllocE
 
 /// Adds each of these decisions.
 fn add_each_decision(bytes: &mut Vec<u8>, decisions: &[PacketDecision]) -> Result<(), AllocError>
-    ensures { OnOk result (AddsEach decision_code (map drawn_decision decisions.now) bytes.old.items bytes.new.items) }
+    ensures { OnOk result (AddsEach decision_code (map drawn_decision decisions.now) bytes.old.items
+        bytes.new.items) }
 {
     for made in decisions {
         add_decision(bytes, made)?;

@@ -50,7 +50,8 @@ fn add_loader(bytes: &mut Vec<u8>, row: &LoaderRow) -> Result<(), AllocError>
 
 /// Adds each of these loaders.
 fn add_each_loader(bytes: &mut Vec<u8>, rows: &[LoaderRow]) -> Result<(), AllocError>
-    ensures { OnOk result (AddsEach loader_code (map drawn_loader rows.now) bytes.old.items bytes.new.items) }
+    ensures { OnOk result
+        (AddsEach loader_code (map drawn_loader rows.now) bytes.old.items bytes.new.items) }
 {
     for row in rows {
         add_loader(bytes, row)?;
@@ -69,7 +70,8 @@ fn add_rows(bytes: &mut Vec<u8>, rows: &[LoaderRow]) -> Result<(), AllocError>
 
 /// Adds whose loads pass.
 pub(crate) fn add_loaders(bytes: &mut Vec<u8>, loaders: &LoaderRows) -> Result<(), AllocError>
-    ensures { OnOk result (Adds loaders_code (drawn_loaders loaders.now) bytes.old.items bytes.new.items) }
+    ensures { OnOk result
+        (Adds loaders_code (drawn_loaders loaders.now) bytes.old.items bytes.new.items) }
 {
     add_count(bytes, loaders.bytes)?;
     add_rows(bytes, loaders.rows.as_slice())
