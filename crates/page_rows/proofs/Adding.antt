@@ -5,6 +5,13 @@ use Rattle.std.proofs.lemmas.List.{append_assoc, append-nil, drop_all, length-ma
 use Rattle.std.proofs.lemmas.List.Elements.{All-cons, All-nil}
 use Rattle.page_rows.specs.Codes.{Adds, AddsEach, Code, both, each_bytes, flag_code, list_code, number_code, option_code}
 
+-- the same value, by an equation
+pub same_added : {X : Type 0} (code : Code X) (x y : X) (old new : List ℕ) → x ≡ y → Adds code x old new → Adds code y old new
+same_added {X} code x y old new same adds = subst (λ (v : X). Adds code v old new) same adds
+
+pub same_last : {X T E : Type 0} (code : Code X) (x y : X) (old new : List ℕ) (r : Result T E) → x ≡ y → OnOk r (Adds code x old new) → OnOk r (Adds code y old new)
+same_last {X} code x y old new r same adds = subst (λ (v : X). OnOk r (Adds code v old new)) same adds
+
 -- a value after another
 pub both_added : {X Y T E : Type 0} (one : Code X) (other : Code Y) (x : X) (y : Y) (old mid new : List ℕ) (r : Result T E)
     → Adds one x old mid → OnOk r (Adds other y mid new) → OnOk r (Adds (both one other) (x, y) old new)
@@ -88,6 +95,14 @@ module _ {X : Type 0} (code : Code X) (old now next : List ℕ) where
       let opened : map draw (drop i items) ≡ draw (get_or items i d) ∷ map draw (drop (suc i) items) = ap (λ (own : List Z). map draw own) (drop-cons items i d within) in
       subst (λ (k : ℕ). AreLeft code old (map draw items) next (map draw (drop k items))) (sym (add-one i))
       (one_left code old now next (draw (get_or items i d)) (map draw items) (map draw (drop (suc i) items)) (subst (λ (left : List X). AreLeft code old (map draw items) now left) opened are) adds)
+
+  -- so too, if the item was read
+  pub next_read : {Z : Type 0} (draw : Z → X) (items : List Z) (i : ℕ) (item : Z) → i < length items → item ≡ get_or items i item
+      → AreLeft code old (map draw items) now (map draw (drop i items))
+      → Adds code (draw item) now next
+      → AreLeft code old (map draw items) next (map draw (drop (i + 1) items))
+  next_read {Z} draw items i item within is are adds =
+      next_drawn draw items i item within are (subst (λ (own : Z). Adds code (draw own) now next) is adds)
 
 -- all were added of what is drawn
 pub all_drawn : {Z X : Type 0} (code : Code X) (draw : Z → X) (items : List Z) (i : ℕ) (old now : List ℕ) → length items ≤ i

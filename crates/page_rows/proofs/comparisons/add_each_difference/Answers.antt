@@ -1,11 +1,11 @@
 use Rattle.std.proofs.Common.{◌≤◌, length, arith}
 use Rattle.page_rows.specs.Comparisons.{drawn_difference, difference_code}
-use Rattle.page_rows.proofs.Adding.{all_drawn, next_drawn}
+use Rattle.page_rows.proofs.Adding.{all_drawn, next_read}
 use Rattle.page_rows.proofs.comparisons.add_each_difference.Goals as goal
 
 pub loop-own-preserved : goal.loop-own-preserved
 loop-own-preserved c =
-    next_drawn difference_code c.args.bytes.now.items c.loop-own.bytes.items c.add_difference.new.bytes.items drawn_difference c.args.differences.now c.loop-own.own-index _ c.loop-own-test.true c.loop-own.invariant c.in_ok-add_difference.ensures
+    next_read difference_code c.args.bytes.now.items c.loop-own.bytes.items c.add_difference.new.bytes.items drawn_difference c.args.differences.now c.loop-own.own-index c.own-item.result c.loop-own-test.true c.own-item.is c.loop-own.invariant c.in_ok-add_difference.ensures
 
 pub returns : goal.returns
 returns c =

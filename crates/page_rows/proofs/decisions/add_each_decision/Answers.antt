@@ -1,11 +1,11 @@
 use Rattle.std.proofs.Common.{◌≤◌, length, arith}
 use Rattle.page_rows.specs.Decisions.{drawn_decision, decision_code}
-use Rattle.page_rows.proofs.Adding.{all_drawn, next_drawn}
+use Rattle.page_rows.proofs.Adding.{all_drawn, next_read}
 use Rattle.page_rows.proofs.decisions.add_each_decision.Goals as goal
 
 pub loop-made-preserved : goal.loop-made-preserved
 loop-made-preserved c =
-    next_drawn decision_code c.args.bytes.now.items c.loop-made.bytes.items c.add_decision.new.bytes.items drawn_decision c.args.decisions.now c.loop-made.made-index _ c.loop-made-test.true c.loop-made.invariant c.in_ok-add_decision.ensures
+    next_read decision_code c.args.bytes.now.items c.loop-made.bytes.items c.add_decision.new.bytes.items drawn_decision c.args.decisions.now c.loop-made.made-index c.made-item.result c.loop-made-test.true c.made-item.is c.loop-made.invariant c.in_ok-add_decision.ensures
 
 pub returns : goal.returns
 returns c =
