@@ -1,8 +1,16 @@
 -- What is added to bytes.
-use Rattle.std.proofs.Common.{◌≡◌, ◌++◌, ◌<◌, ◌^◌, ◌∙◌, ℕ, List, [], ◌∷◌, All, map, true, false, Option, None, Some, length, refl, sym, ap, subst, Result, Ok, Err, OnOk}
-use Rattle.std.proofs.lemmas.List.{append_assoc, append-nil, length-map}
+use Rattle.std.proofs.Common.{◌≡◌, ◌++◌, ◌+◌, ◌<◌, ◌≤◌, ◌^◌, ◌∙◌, ℕ, suc, List, [], ◌∷◌, All, map, true, false, None, Some, length, get_or, drop, refl, sym, ap, subst, add-one, Result, Ok, Err, OnOk}
+use Rattle.std.proofs.Math.Seq.{drop-cons}
+use Rattle.std.proofs.lemmas.List.{append_assoc, append-nil, drop_all, length-map}
 use Rattle.std.proofs.lemmas.List.Elements.{All-cons, All-nil}
 use Rattle.page_rows.specs.Codes.{Adds, AddsEach, Code, both, each_bytes, flag_code, list_code, number_code, option_code}
+
+-- the same value, by an equation
+pub same_added : {X : Type 0} (code : Code X) (x y : X) (old new : List ℕ) → x ≡ y → Adds code x old new → Adds code y old new
+same_added {X} code x y old new same adds = subst (λ (v : X). Adds code v old new) same adds
+
+pub same_last : {X T E : Type 0} (code : Code X) (x y : X) (old new : List ℕ) (r : Result T E) → x ≡ y → OnOk r (Adds code x old new) → OnOk r (Adds code y old new)
+same_last {X} code x y old new r same adds = subst (λ (v : X). OnOk r (Adds code v old new)) same adds
 
 -- a value after another
 pub both_added : {X Y T E : Type 0} (one : Code X) (other : Code Y) (x : X) (y : Y) (old mid new : List ℕ) (r : Result T E)
@@ -70,3 +78,35 @@ all_left {X} code old now values left are empty = record {
   fits = are.fits (subst (λ (l : List X). All code.fits l) (sym empty) (All-nil code.fits));
   is = sym (append-nil now) ∙ ap (λ (l : List X). now ++ each_bytes code.bytes l) (sym empty) ∙ are.is;
 }
+
+module _ {X : Type 0} (code : Code X) (old now next : List ℕ) where
+  -- one more of plain values was added
+  pub next_left : (values : List X) (i : ℕ) (d : X) → i < length values → AreLeft code old values now (drop i values) → Adds code (get_or values i d) now next
+      → AreLeft code old values next (drop (i + 1) values)
+  next_left values i d within are adds =
+      subst (λ (k : ℕ). AreLeft code old values next (drop k values)) (sym (add-one i))
+      (one_left code old now next (get_or values i d) values (drop (suc i) values) (subst (λ (left : List X). AreLeft code old values now left) (drop-cons values i d within) are) adds)
+
+  -- one more was added of what is drawn
+  pub next_drawn : {Z : Type 0} (draw : Z → X) (items : List Z) (i : ℕ) (d : Z) → i < length items → AreLeft code old (map draw items) now (map draw (drop i items))
+      → Adds code (draw (get_or items i d)) now next
+      → AreLeft code old (map draw items) next (map draw (drop (i + 1) items))
+  next_drawn {Z} draw items i d within are adds =
+      let opened : map draw (drop i items) ≡ draw (get_or items i d) ∷ map draw (drop (suc i) items) = ap (λ (own : List Z). map draw own) (drop-cons items i d within) in
+      subst (λ (k : ℕ). AreLeft code old (map draw items) next (map draw (drop k items))) (sym (add-one i))
+      (one_left code old now next (draw (get_or items i d)) (map draw items) (map draw (drop (suc i) items)) (subst (λ (left : List X). AreLeft code old (map draw items) now left) opened are) adds)
+
+  -- so too, if the item was read
+  pub next_read : {Z : Type 0} (draw : Z → X) (items : List Z) (i : ℕ) (item : Z) → i < length items → item ≡ get_or items i item
+      → AreLeft code old (map draw items) now (map draw (drop i items))
+      → Adds code (draw item) now next
+      → AreLeft code old (map draw items) next (map draw (drop (i + 1) items))
+  next_read {Z} draw items i item within is are adds =
+      next_drawn draw items i item within are (subst (λ (own : Z). Adds code (draw own) now next) is adds)
+
+-- all were added of what is drawn
+pub all_drawn : {Z X : Type 0} (code : Code X) (draw : Z → X) (items : List Z) (i : ℕ) (old now : List ℕ) → length items ≤ i
+    → AreLeft code old (map draw items) now (map draw (drop i items))
+    → AddsEach code (map draw items) old now
+all_drawn {Z} code draw items i old now past are =
+    all_left code old now (map draw items) (map draw (drop i items)) are (ap (λ (own : List Z). map draw own) (drop_all i items past))

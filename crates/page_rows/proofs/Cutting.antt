@@ -1,5 +1,5 @@
 -- Bytes are values in one way.
-use Rattle.std.proofs.Common.{◌≡◌, ◌++◌, ◌+◌, ◌<◌, ◌^◌, ◌∙◌, ℕ, List, [], ◌∷◌, All, Bool, true, false, Option, None, Some, length, take, drop, refl, sym, ap, ap₂, arith}
+use Rattle.std.proofs.Common.{◌≡◌, ◌++◌, ◌<◌, ◌^◌, ◌∙◌, ℕ, List, [], ◌∷◌, All, Bool, true, false, None, Some, length, take, drop, refl, sym, ap, ap₂, arith}
 use Rattle.std.specs.Int.{from_le_bytes, to_le_bytes, w64}
 use Rattle.std.proofs.lemmas.Nat.{from_le_bytes-to_le_bytes_8}
 use Rattle.std.proofs.lemmas.List.{append_assoc, append-nil, drop_at, take_at}
@@ -33,6 +33,36 @@ both_cut {X} {Y} one other first second x y rest more fits small same =
     (sym (append_assoc (one.bytes x.0) (other.bytes x.1) rest) ∙ same ∙ append_assoc (one.bytes y.0) (other.bytes y.1) more) in
     let back = second x.1 y.1 rest more fits.1 small.1 front.1 in
     (ap₂ (λ (a : X) (b : Y). (a, b)) front.0 back.0, back.1)
+
+-- the number of rows
+abbrev tag : DrawnRows → ℕ
+tag NoRows = 0
+tag (MapOf own) = 1
+tag (ComparisonOf own) = 2
+tag (LoadersOf own) = 3
+tag (DecisionsOf own) = 4
+
+-- what comes after it
+abbrev body : DrawnRows → List ℕ
+body NoRows = []
+body (MapOf own) = chart_code.bytes own
+body (ComparisonOf own) = differences_code.bytes own
+body (LoadersOf own) = loaders_code.bytes own
+body (DecisionsOf own) = decisions_code.bytes own
+
+parts : (own : DrawnRows) → rows_bytes own ≡ number_bytes (tag own) ++ body own
+parts NoRows = sym (append-nil (number_bytes 0))
+parts (MapOf own) = refl
+parts (ComparisonOf own) = refl
+parts (LoadersOf own) = refl
+parts (DecisionsOf own) = refl
+
+small_tag : (own : DrawnRows) → tag own < 2 ^ 32
+small_tag NoRows = omega arith
+small_tag (MapOf own) = omega arith
+small_tag (ComparisonOf own) = omega arith
+small_tag (LoadersOf own) = omega arith
+small_tag (DecisionsOf own) = omega arith
 
 module _ (law : ArePiecesCut) where
   number_cut : IsCutOnce number_code
@@ -158,35 +188,6 @@ module _ (law : ArePiecesCut) where
 
   decisions_cut : IsCutOnce decisions_code
   decisions_cut = list_cut decision_code decision_cut
-
-  -- the number of rows, and what comes after it
-  tag : DrawnRows → ℕ
-  tag NoRows = 0
-  tag (MapOf own) = 1
-  tag (ComparisonOf own) = 2
-  tag (LoadersOf own) = 3
-  tag (DecisionsOf own) = 4
-
-  body : DrawnRows → List ℕ
-  body NoRows = []
-  body (MapOf own) = chart_code.bytes own
-  body (ComparisonOf own) = differences_code.bytes own
-  body (LoadersOf own) = loaders_code.bytes own
-  body (DecisionsOf own) = decisions_code.bytes own
-
-  parts : (own : DrawnRows) → rows_bytes own ≡ number_bytes (tag own) ++ body own
-  parts NoRows = sym (append-nil (number_bytes 0))
-  parts (MapOf own) = refl
-  parts (ComparisonOf own) = refl
-  parts (LoadersOf own) = refl
-  parts (DecisionsOf own) = refl
-
-  small_tag : (own : DrawnRows) → tag own < 2 ^ 32
-  small_tag NoRows = omega arith
-  small_tag (MapOf own) = omega arith
-  small_tag (ComparisonOf own) = omega arith
-  small_tag (LoadersOf own) = omega arith
-  small_tag (DecisionsOf own) = omega arith
 
   -- with the same number, and the same bytes after it
   same_rows : (one other : DrawnRows) → fit one → fit other → tag one ≡ tag other → body one ≡ body other → one ≡ other
