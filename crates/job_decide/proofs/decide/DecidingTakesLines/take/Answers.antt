@@ -1,4 +1,4 @@
-use Rattle.std.proofs.Common.{rules, ℕ, List, Some, refl}
+use Rattle.std.proofs.Common.{rules, Some, refl}
 use Rattle.std.proofs.lemmas.Result.{on_ok_weaker}
 use Rattle.job_nodes.specs.Feeds.{IsFed}
 use Rattle.job_decide.specs.declared.decide.Deciding.{Deciding}
