@@ -201,7 +201,6 @@ fn decide_lines<'a, W: Write>(
 ///
 /// Faults are found in this order: those of the file of lines (`CannotRead`, also if it is not UTF-8), of the file of
 /// the table, and then of each line. `NoMemory` if memory was refused.
-#[tactic(auto, using(crate::proofs::Printing::all_of_them))]
 pub fn decide_file<'a, F: Files, W: Write>(
     alloc: Global,
     words: &'a DecideWords,
